@@ -1,0 +1,5 @@
+pub mod Kinds
+pub mod Firing
+pub mod Machines
+pub mod Shown
+pub mod Locality
