@@ -2,7 +2,7 @@
 -- is ready (`step-waits`, `step-fires`, `step-blocked`).
 -- Assumes nothing.
 use mathlib.Core.Path.{_≡_, refl, sym, ap, _∙_}
-use mathlib.Core.Bool.{Bool, true, false}
+use mathlib.Core.Bool.{Bool, true, false, _&&_}
 use mathlib.Core.Option.{Option, none, some}
 use Prim.Native.Nat.{ℕ, zero, suc, _<_}
 use native.Mathlib.Omega.{arith}
@@ -10,7 +10,7 @@ use Rattle.word.specs.Words.{pick}
 use Rattle.step.specs.Kinds.{Kind, kindOf, no-kind-past-8}
 use Rattle.step.specs.Firing.{Program, stop, Effect, fillable}
 use Rattle.step.specs.Machines.{program, step, stepBy, stepOf}
-use Rattle.step.specs.Shown.{shown, viewOf, effectOf, wordsOf, decidedBy, decidedOf, ready, whenReady, unless, bothOf, ready-apart}
+use Rattle.step.specs.Shown.{shown, viewOf, effectOf, wordsOf, decidedBy, decidedOf, ready, whenReady, unless, ready-apart}
 use Rattle.step.specs.declared.Record.{Record}
 use Rattle.step.specs.declared.Seen.{Seen}
 use Rattle.step.specs.declared.Act.{Act}
@@ -56,10 +56,10 @@ fillable-token true x r = refl
 fillable-token false x r = refl
 
 pub ready-is : (s : Seen) (a : Act) {f0 f1 f2 g0 g1 i1 i0 o r : Bool}
-    → f0 ≡ unless (a .takes0) (s .in0 .full) → f1 ≡ unless (a .takes1) (s .in1 .full) → f2 ≡ unless (a .takes2) (s .in2 .full)
-    → i1 ≡ bothOf f1 f2 → i0 ≡ bothOf f0 i1
-    → g0 ≡ unless (a .gives0 .full) (s .room0) → g1 ≡ unless (a .gives1 .full) (s .room1) → o ≡ bothOf g0 g1
-    → r ≡ bothOf i0 o → r ≡ ready s (effectOf a)
+    → f0 ≡ unless (a .takes .in0) (s .in0 .full) → f1 ≡ unless (a .takes .in1) (s .in1 .full) → f2 ≡ unless (a .takes .in2) (s .in2 .full)
+    → i1 ≡ (f1 && f2) → i0 ≡ (f0 && i1)
+    → g0 ≡ unless (a .gives0 .full) (s .room0) → g1 ≡ unless (a .gives1 .full) (s .room1) → o ≡ (g0 && g1)
+    → r ≡ (i0 && o) → r ≡ ready s (effectOf a)
 unfolding ready
 ready-is s a e0 e1 e2 e3 e4 e5 e6 e7 e8 =
     simp (e8, e4, e3, e7, e0, e1, e2, e5, e6, fillable-token (a .gives0 .full) (a .gives0 .word) (s .room0), fillable-token (a .gives1 .full) (a .gives1 .word) (s .room1))

@@ -9,7 +9,7 @@
 --
 -- Assumes nothing.
 use mathlib.Core.Path.{_≡_, refl, sym, ap, _∙_}
-use mathlib.Core.Bool.{Bool, true, false}
+use mathlib.Core.Bool.{Bool, true, false, _&&_}
 use mathlib.Core.Option.{Option, none, some}
 use Prim.Native.Nat.{ℕ}
 use Rattle.word.specs.Words.{pick}
@@ -19,6 +19,7 @@ use Rattle.step.specs.Machines.{program}
 use Rattle.step.specs.declared.Record.{Record}
 use Rattle.step.specs.declared.Token.{Token}
 use Rattle.step.specs.declared.Seen.{Seen}
+use Rattle.step.specs.declared.Takes.{Takes}
 use Rattle.step.specs.declared.Act.{Act}
 use Rattle.step.specs.declared.Firing.{Firing}
 use Rattle.step.specs.declared.Firing.the-variants.{NotReady, Fires}
@@ -30,16 +31,11 @@ abbrev pub viewOf : Seen → Record → View
 viewOf s r =
     record { word0 = tokenOf (s .in0); word1 = tokenOf (s .in1); word2 = tokenOf (s .in2); room0 = s .room0; room1 = s .room1; own = r }
 
+abbrev pub effect : Takes → Option ℕ → Option ℕ → Record → Effect
+effect t x y r = record { takes0 = t .in0; takes1 = t .in1; takes2 = t .in2; gives0 = x; gives1 = y; next = r }
+
 abbrev pub effectOf : Act → Effect
-effectOf a =
-    record {
-      takes0 = a .takes0;
-      takes1 = a .takes1;
-      takes2 = a .takes2;
-      gives0 = tokenOf (a .gives0);
-      gives1 = tokenOf (a .gives1);
-      next = a .next;
-    }
+effectOf a = effect (a .takes) (tokenOf (a .gives0)) (tokenOf (a .gives1)) (a .next)
 
 abbrev pub shown : Firing → Option Effect
 shown NotReady = none
@@ -66,10 +62,6 @@ decidedBy (some κ) code r w = decided (program κ code r) w
 abbrev pub decidedOf : ℕ → ℕ → Record → (Input → ℕ) → Option Effect
 decidedOf kind code r w = decidedBy (kindOf kind) code r w
 
-abbrev pub bothOf : Bool → Bool → Bool
-bothOf true b = b
-bothOf false b = false
-
 abbrev pub unless : Bool → Bool → Bool
 unless true b = b
 unless false b = true
@@ -77,9 +69,8 @@ unless false b = true
 -- the inputs it will take are full, and the outputs it will fill are empty
 unfoldable pub ready : Seen → Effect → Bool
 ready s e =
-    bothOf
-    (bothOf (unless (e .takes0) (s .in0 .full)) (bothOf (unless (e .takes1) (s .in1 .full)) (unless (e .takes2) (s .in2 .full))))
-    (bothOf (fillable (e .gives0) (s .room0)) (fillable (e .gives1) (s .room1)))
+    (unless (e .takes0) (s .in0 .full) && (unless (e .takes1) (s .in1 .full) && unless (e .takes2) (s .in2 .full)))
+    && (fillable (e .gives0) (s .room0) && fillable (e .gives1) (s .room1))
 
 abbrev pub whenReady : Seen → Option Effect → Option Effect
 whenReady s none = none
@@ -91,7 +82,7 @@ unless-true : (t : Bool) → unless t true ≡ true
 unless-true true = refl
 unless-true false = refl
 
-never : (a : Bool) → bothOf a false ≡ false
+never : (a : Bool) → (a && false) ≡ false
 never true = refl
 never false = refl
 
@@ -125,7 +116,7 @@ also-empty : (s : Seen) (k : Input) (o : Option Effect) → full s k ≡ false �
 also-empty s k none h = refl
 also-empty s k (some e) h = rw (taking-empty s k e h)
 
-giving-ready : (a b : Bool) (x y : Option ℕ) (r : Record) → giving a b x y r ≡ pick (bothOf a b) (some (plain x y r)) none
+giving-ready : (a b : Bool) (x y : Option ℕ) (r : Record) → giving a b x y r ≡ pick (a && b) (some (plain x y r)) none
 giving-ready true true x y r = refl
 giving-ready true false x y r = refl
 giving-ready false b x y r = refl

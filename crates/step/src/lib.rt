@@ -1,8 +1,10 @@
 // One firing of one node, by value: what the node sees and its record go in, what the firing does comes out.
 ghost use mathlib.Core.Path.{_≡_};
+ghost use mathlib.Core.Bool.{_&&_};
+ghost use mathlib.Core.Option.{some};
 ghost use Rattle.step.specs.Kinds.{STREAM, GATE, CARRY, INVARIANT, SPLIT, FORK, DRAIN, OP, PICK};
-ghost use Rattle.step.specs.Machines.{program, stepOf};
-ghost use Rattle.step.specs.Shown.{shown, viewOf, effectOf, wordsOf, decided, decidedOf, ready, unless, bothOf};
+ghost use Rattle.step.specs.Machines.{program, stepOf, inPhase, holding};
+ghost use Rattle.step.specs.Shown.{tokenOf, viewOf, effectOf, shown, wordsOf, decided, decidedOf, effect, ready, unless};
 
 // A node's phase and three registers.
 pub struct Record {
@@ -27,11 +29,16 @@ pub struct Seen {
     pub room1: bool,
 }
 
+// Which inputs a firing takes.
+pub struct Takes {
+    pub in0: bool,
+    pub in1: bool,
+    pub in2: bool,
+}
+
 // What a firing does: the inputs taken, the tokens given, the record left.
 pub struct Act {
-    pub takes0: bool,
-    pub takes1: bool,
-    pub takes2: bool,
+    pub takes: Takes,
     pub gives0: Token,
     pub gives1: Token,
     pub next: Record,
@@ -41,6 +48,42 @@ pub enum Firing {
     NotReady,
     Fires(Act),
 }
+
+const NONE: Takes = Takes {
+    in0: false,
+    in1: false,
+    in2: false,
+};
+
+const FIRST: Takes = Takes {
+    in0: true,
+    in1: false,
+    in2: false,
+};
+
+const SECOND: Takes = Takes {
+    in0: false,
+    in1: true,
+    in2: false,
+};
+
+const THIRD: Takes = Takes {
+    in0: false,
+    in1: false,
+    in2: true,
+};
+
+const BOTH: Takes = Takes {
+    in0: true,
+    in1: true,
+    in2: false,
+};
+
+const ALL: Takes = Takes {
+    in0: true,
+    in1: true,
+    in2: true,
+};
 
 const NOTHING: Token = Token {
     full: false,
@@ -64,7 +107,46 @@ const REST: Record = Record {
     r2: 0,
 };
 
-// What each kind would do next, by its phase and then the flag it takes. Whether it may is asked once, in `when_ready`.
+fn fires(takes: Takes, gives0: Token, gives1: Token, next: Record) -> Firing
+    ensures effect { λ r. ⌜ shown r ≡ some (effect takes (tokenOf gives0) (tokenOf gives1) next) ⌝ }
+{
+    Firing::Fires(Act {
+        takes,
+        gives0,
+        gives1,
+        next,
+    })
+}
+
+fn some_word(word: u32) -> Token
+    ensures token { λ r. ⌜ tokenOf r ≡ some word ⌝ }
+{
+    Token { full: true, word }
+}
+
+fn in_phase(phase: u32) -> Record
+    ensures record { λ r. ⌜ r ≡ inPhase phase ⌝ }
+{
+    Record {
+        phase,
+        r0: 0,
+        r1: 0,
+        r2: 0,
+    }
+}
+
+fn hold(r0: u32, r1: u32, r2: u32) -> Record
+    ensures record { λ r. ⌜ r ≡ holding r0 r1 r2 ⌝ }
+{
+    Record {
+        phase: 1,
+        r0,
+        r1,
+        r2,
+    }
+}
+
+// What each kind would do next, by its phase and then the flag it takes. Whether it may is asked once, in `step`.
 
 // Activation latches start, step and bound, unless the step is 0; then one pair a firing.
 fn stream(code: u32, seen: Seen, own: Record) -> Firing
@@ -75,52 +157,20 @@ fn stream(code: u32, seen: Seen, own: Record) -> Firing
     match phase {
         0 => match step {
             0 => Firing::NotReady,
-            _ => Firing::Fires(Act {
-                takes0: true,
-                takes1: true,
-                takes2: true,
-                gives0: NOTHING,
-                gives1: NOTHING,
-                next: Record {
-                    phase: 1,
-                    r0: seen.in0.word,
-                    r1: step,
-                    r2: seen.in2.word,
-                },
-            }),
+            _ => fires(
+                ALL,
+                NOTHING,
+                NOTHING,
+                hold(seen.in0.word, step, seen.in2.word),
+            ),
         },
         1 => {
             let holds = word::condition(code % 5, own.r0, own.r2);
             match holds {
-                0 => Firing::Fires(Act {
-                    takes0: false,
-                    takes1: false,
-                    takes2: false,
-                    gives0: Token {
-                        full: true,
-                        word: own.r0,
-                    },
-                    gives1: FALSE,
-                    next: REST,
-                }),
+                0 => fires(NONE, some_word(own.r0), FALSE, REST),
                 _ => {
                     let index = word::update(code / 5, own.r0, own.r1);
-                    Firing::Fires(Act {
-                        takes0: false,
-                        takes1: false,
-                        takes2: false,
-                        gives0: Token {
-                            full: true,
-                            word: own.r0,
-                        },
-                        gives1: TRUE,
-                        next: Record {
-                            phase: 1,
-                            r0: index,
-                            r1: own.r1,
-                            r2: own.r2,
-                        },
-                    })
+                    fires(NONE, some_word(own.r0), TRUE, hold(index, own.r1, own.r2))
                 }
             }
         }
@@ -136,56 +186,12 @@ fn gate(seen: Seen, own: Record) -> Firing
     let condition = seen.in1.word;
     match phase {
         0 => match condition {
-            0 => Firing::Fires(Act {
-                takes0: true,
-                takes1: true,
-                takes2: false,
-                gives0: NOTHING,
-                gives1: NOTHING,
-                next: REST,
-            }),
-            _ => Firing::Fires(Act {
-                takes0: true,
-                takes1: true,
-                takes2: false,
-                gives0: Token {
-                    full: true,
-                    word: seen.in0.word,
-                },
-                gives1: NOTHING,
-                next: Record {
-                    phase: 1,
-                    r0: 0,
-                    r1: 0,
-                    r2: 0,
-                },
-            }),
+            0 => fires(BOTH, NOTHING, NOTHING, REST),
+            _ => fires(BOTH, some_word(seen.in0.word), NOTHING, in_phase(1)),
         },
         1 => match condition {
-            0 => Firing::Fires(Act {
-                takes0: true,
-                takes1: true,
-                takes2: false,
-                gives0: NOTHING,
-                gives1: FALSE,
-                next: REST,
-            }),
-            _ => Firing::Fires(Act {
-                takes0: true,
-                takes1: true,
-                takes2: false,
-                gives0: Token {
-                    full: true,
-                    word: seen.in0.word,
-                },
-                gives1: TRUE,
-                next: Record {
-                    phase: 1,
-                    r0: 0,
-                    r1: 0,
-                    r2: 0,
-                },
-            }),
+            0 => fires(BOTH, NOTHING, FALSE, REST),
+            _ => fires(BOTH, some_word(seen.in0.word), TRUE, in_phase(1)),
         },
         _ => Firing::NotReady,
     }
@@ -198,61 +204,12 @@ fn carry(seen: Seen, own: Record) -> Firing
     let phase = own.phase;
     let d = seen.in0.word;
     match phase {
-        0 => Firing::Fires(Act {
-            takes0: false,
-            takes1: true,
-            takes2: false,
-            gives0: Token {
-                full: true,
-                word: seen.in1.word,
-            },
-            gives1: NOTHING,
-            next: Record {
-                phase: 1,
-                r0: 0,
-                r1: 0,
-                r2: 0,
-            },
-        }),
+        0 => fires(SECOND, some_word(seen.in1.word), NOTHING, in_phase(1)),
         1 => match d {
-            0 => Firing::Fires(Act {
-                takes0: true,
-                takes1: false,
-                takes2: false,
-                gives0: NOTHING,
-                gives1: NOTHING,
-                next: REST,
-            }),
-            _ => Firing::Fires(Act {
-                takes0: true,
-                takes1: false,
-                takes2: false,
-                gives0: NOTHING,
-                gives1: NOTHING,
-                next: Record {
-                    phase: 2,
-                    r0: 0,
-                    r1: 0,
-                    r2: 0,
-                },
-            }),
+            0 => fires(FIRST, NOTHING, NOTHING, REST),
+            _ => fires(FIRST, NOTHING, NOTHING, in_phase(2)),
         },
-        2 => Firing::Fires(Act {
-            takes0: false,
-            takes1: false,
-            takes2: true,
-            gives0: Token {
-                full: true,
-                word: seen.in2.word,
-            },
-            gives1: NOTHING,
-            next: Record {
-                phase: 1,
-                r0: 0,
-                r1: 0,
-                r2: 0,
-            },
-        }),
+        2 => fires(THIRD, some_word(seen.in2.word), NOTHING, in_phase(1)),
         _ => Firing::NotReady,
     }
 }
@@ -264,47 +221,15 @@ fn invariant(seen: Seen, own: Record) -> Firing
     let phase = own.phase;
     let d = seen.in0.word;
     match phase {
-        0 => Firing::Fires(Act {
-            takes0: false,
-            takes1: true,
-            takes2: false,
-            gives0: Token {
-                full: true,
-                word: seen.in1.word,
-            },
-            gives1: NOTHING,
-            next: Record {
-                phase: 1,
-                r0: seen.in1.word,
-                r1: 0,
-                r2: 0,
-            },
-        }),
+        0 => fires(
+            SECOND,
+            some_word(seen.in1.word),
+            NOTHING,
+            hold(seen.in1.word, 0, 0),
+        ),
         1 => match d {
-            0 => Firing::Fires(Act {
-                takes0: true,
-                takes1: false,
-                takes2: false,
-                gives0: NOTHING,
-                gives1: NOTHING,
-                next: REST,
-            }),
-            _ => Firing::Fires(Act {
-                takes0: true,
-                takes1: false,
-                takes2: false,
-                gives0: Token {
-                    full: true,
-                    word: own.r0,
-                },
-                gives1: NOTHING,
-                next: Record {
-                    phase: 1,
-                    r0: own.r0,
-                    r1: 0,
-                    r2: 0,
-                },
-            }),
+            0 => fires(FIRST, NOTHING, NOTHING, REST),
+            _ => fires(FIRST, some_word(own.r0), NOTHING, hold(own.r0, 0, 0)),
         },
         _ => Firing::NotReady,
     }
@@ -316,28 +241,10 @@ fn split(seen: Seen, own: Record) -> Firing
 {
     let phase = own.phase;
     let flag = seen.in0.word;
-    let value = Token {
-        full: true,
-        word: seen.in1.word,
-    };
     match phase {
         0 => match flag {
-            0 => Firing::Fires(Act {
-                takes0: true,
-                takes1: true,
-                takes2: false,
-                gives0: NOTHING,
-                gives1: value,
-                next: REST,
-            }),
-            _ => Firing::Fires(Act {
-                takes0: true,
-                takes1: true,
-                takes2: false,
-                gives0: value,
-                gives1: NOTHING,
-                next: REST,
-            }),
+            0 => fires(BOTH, NOTHING, some_word(seen.in1.word), REST),
+            _ => fires(BOTH, some_word(seen.in1.word), NOTHING, REST),
         },
         _ => Firing::NotReady,
     }
@@ -347,19 +254,13 @@ fn fork(seen: Seen, own: Record) -> Firing
     ensures decision { λ r. ⌜ shown r ≡ decided (program FORK 0 own) (wordsOf seen) ⌝ }
 {
     let phase = own.phase;
-    let value = Token {
-        full: true,
-        word: seen.in0.word,
-    };
     match phase {
-        0 => Firing::Fires(Act {
-            takes0: true,
-            takes1: false,
-            takes2: false,
-            gives0: value,
-            gives1: value,
-            next: REST,
-        }),
+        0 => fires(
+            FIRST,
+            some_word(seen.in0.word),
+            some_word(seen.in0.word),
+            REST,
+        ),
         _ => Firing::NotReady,
     }
 }
@@ -369,14 +270,7 @@ fn drain(seen: Seen, own: Record) -> Firing
 {
     let phase = own.phase;
     match phase {
-        0 => Firing::Fires(Act {
-            takes0: true,
-            takes1: false,
-            takes2: false,
-            gives0: NOTHING,
-            gives1: NOTHING,
-            next: REST,
-        }),
+        0 => fires(FIRST, NOTHING, NOTHING, REST),
         _ => Firing::NotReady,
     }
 }
@@ -385,24 +279,16 @@ fn operator(code: u32, seen: Seen, own: Record) -> Firing
     ensures decision { λ r. ⌜ shown r ≡ decided (program OP code own) (wordsOf seen) ⌝ }
 {
     let phase = own.phase;
-    let value = word::operate(code, seen.in0.word, seen.in1.word);
     match phase {
-        0 => Firing::Fires(Act {
-            takes0: true,
-            takes1: true,
-            takes2: false,
-            gives0: Token {
-                full: true,
-                word: value,
-            },
-            gives1: NOTHING,
-            next: REST,
-        }),
+        0 => {
+            let value = word::operate(code, seen.in0.word, seen.in1.word);
+            fires(BOTH, some_word(value), NOTHING, REST)
+        }
         _ => Firing::NotReady,
     }
 }
 
-// Both words are taken, whichever is given.
+// All three are taken, whichever word is given.
 fn picker(seen: Seen, own: Record) -> Firing
     ensures decision { λ r. ⌜ shown r ≡ decided (program PICK 0 own) (wordsOf seen) ⌝ }
 {
@@ -410,28 +296,8 @@ fn picker(seen: Seen, own: Record) -> Firing
     let flag = seen.in0.word;
     match phase {
         0 => match flag {
-            0 => Firing::Fires(Act {
-                takes0: true,
-                takes1: true,
-                takes2: true,
-                gives0: Token {
-                    full: true,
-                    word: seen.in2.word,
-                },
-                gives1: NOTHING,
-                next: REST,
-            }),
-            _ => Firing::Fires(Act {
-                takes0: true,
-                takes1: true,
-                takes2: true,
-                gives0: Token {
-                    full: true,
-                    word: seen.in1.word,
-                },
-                gives1: NOTHING,
-                next: REST,
-            }),
+            0 => fires(ALL, some_word(seen.in2.word), NOTHING, REST),
+            _ => fires(ALL, some_word(seen.in1.word), NOTHING, REST),
         },
         _ => Firing::NotReady,
     }
@@ -463,7 +329,7 @@ fn fit(used: bool, is: bool) -> bool
 }
 
 fn both(a: bool, b: bool) -> bool
-    ensures answer { λ r. ⌜ r ≡ bothOf a b ⌝ }
+    ensures answer { λ r. ⌜ r ≡ (a && b) ⌝ }
 {
     if a { b } else { false }
 }
@@ -472,12 +338,10 @@ fn both(a: bool, b: bool) -> bool
 fn is_ready(seen: Seen, act: Act) -> bool
     ensures answer { λ r. ⌜ r ≡ ready seen (effectOf act) ⌝ }
 {
+    let takes = act.takes;
     let ins = both(
-        fit(act.takes0, seen.in0.full),
-        both(
-            fit(act.takes1, seen.in1.full),
-            fit(act.takes2, seen.in2.full),
-        ),
+        fit(takes.in0, seen.in0.full),
+        both(fit(takes.in1, seen.in1.full), fit(takes.in2, seen.in2.full)),
     );
     let outs = both(
         fit(act.gives0.full, seen.room0),

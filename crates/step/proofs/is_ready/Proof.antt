@@ -33,7 +33,7 @@ both-requires-4 c κs = search needs
 
 returns : tie.Need-returns
 returns c = let o = c .before .before in let i = o .before .before in let f = i .before .before in
-    let a = f .before .before .before .args in ready-is (a .seen) (a .act) (f .before .before .fit .ensures) (f .before .fit2 .ensures) (f .fit3 .ensures) (i .before .both .ensures) (i .both2 .ensures) (o .before .fit4 .ensures) (o .fit5 .ensures) (c .before .both3 .ensures) (c .both4 .ensures)
+    let a = f .before .before .before .before .args in ready-is (a .seen) (a .act) (f .before .before .fit .ensures) (f .before .fit2 .ensures) (f .fit3 .ensures) (i .before .both .ensures) (i .both2 .ensures) (o .before .fit4 .ensures) (o .fit5 .ensures) (c .before .both3 .ensures) (c .both4 .ensures)
 
 pub is-ready-spec : {M : Type 1} → statement M
 is-ready-spec =

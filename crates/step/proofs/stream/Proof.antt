@@ -1,17 +1,38 @@
 -- `step::stream` meets its contract. Arm by arm: the phase, then the step or the condition, fix the program. Assumes nothing.
 use mathlib.Core.Path.{refl}
 use Rattle.step.specs.Machines.{stream}
-use Rattle.step.proofs.Laws.{true-flag, past-1}
 use Rattle.step.specs.Shown.{decided}
+use Rattle.step.proofs.Laws.{past-1, true-flag}
 use borrow.Author.Needs.{needs}
 use Rattle.step.proofs.stream.Statement.{statement}
 use Rattle.step.proofs.stream.Tie as tie
 
+hold-requires : tie.Need-hold-requires
+hold-requires c κs = search needs
+
+fires-requires : tie.Need-fires-requires
+fires-requires c κs = search needs
+
 condition-requires : tie.Need-condition-requires
 condition-requires c κs = search needs
 
+some-word-requires : tie.Need-some-word-requires
+some-word-requires c κs = search needs
+
+fires-requires-2 : tie.Need-fires-requires-2
+fires-requires-2 c κs = search needs
+
 update-requires : tie.Need-update-requires
 update-requires c κs = search needs
+
+some-word-requires-2 : tie.Need-some-word-requires-2
+some-word-requires-2 c κs = search needs
+
+hold-requires-2 : tie.Need-hold-requires-2
+hold-requires-2 c κs = search needs
+
+fires-requires-3 : tie.Need-fires-requires-3
+fires-requires-3 c κs = search needs
 
 returns : tie.Need-returns
 unfolding decided
@@ -19,15 +40,15 @@ returns c = simp (c .before .match .keys1, c .match2 .keys1)
 
 returns-2 : tie.Need-returns-2
 unfolding decided
-returns-2 c = let q = true-flag (c .match2 .rest .1) in simp (c .before .match .keys1, q .1)
+returns-2 c = let q = true-flag (c .before .before .match2 .rest .1) in simp (c .before .before .before .match .keys1, q .1, c .before .hold .ensures, c .fires .ensures)
 
 returns-3 : tie.Need-returns-3
 unfolding decided
-returns-3 c = simp (c .before .before .match .keys2, ← c .before .condition .ensures, c .match3 .keys1)
+returns-3 c = simp (c .before .before .before .before .match .keys2, ← c .before .before .before .condition .ensures, c .before .before .match3 .keys1, c .before .some-word .ensures, c .fires2 .ensures)
 
 returns-4 : tie.Need-returns-4
 unfolding decided
-returns-4 c = let q = true-flag (c .before .match3 .rest .1) in simp (c .before .before .before .match .keys2, ← c .before .before .condition .ensures, q .1, c .update .ensures)
+returns-4 c = let q = true-flag (c .before .before .before .before .match3 .rest .1) in simp (c .before .before .before .before .before .before .match .keys2, ← c .before .before .before .before .before .condition .ensures, q .1, c .before .before .before .update .ensures, c .before .before .some-word2 .ensures, c .before .hold2 .ensures, c .fires3 .ensures)
 
 returns-5 : tie.Need-returns-5
 unfolding decided
@@ -36,4 +57,18 @@ returns-5 c = rw (past-1 (stream _ _) (λ p. refl) _ (c .match .rest .0 .1) (c .
 pub stream-spec : {M : Type 1} → statement M
 stream-spec =
     tie.close
-    (tie.spec condition-requires update-requires returns returns-2 returns-3 returns-4 returns-5)
+    (tie.spec
+    hold-requires
+    fires-requires
+    condition-requires
+    some-word-requires
+    fires-requires-2
+    update-requires
+    some-word-requires-2
+    hold-requires-2
+    fires-requires-3
+    returns
+    returns-2
+    returns-3
+    returns-4
+    returns-5)
