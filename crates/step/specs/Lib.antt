@@ -1,0 +1,4 @@
+pub mod Kinds
+pub mod Firing
+pub mod Machines
+pub mod Shown

@@ -1,0 +1,86 @@
+-- What the code's structs say, and readiness apart from decision: a firing is decided by kind, phase and flag from the words on the inputs,
+-- full or not; it is made if the inputs it takes are full and the outputs it fills have room. `ready-apart` says that this is `perform`, for
+-- every program.
+--
+--   tokenOf, viewOf, shown         Token, Seen and Firing of the code, as an optional word, a View and an optional Effect
+--   decided                        a program followed by the words on the inputs, whether they are there or not
+--   whenReady                      an effect, if its inputs are full and its outputs have room
+--   ready-apart                    perform p v ≡ whenReady v (decided p (the words of v))
+--
+-- Assumes nothing.
+use mathlib.Core.Path.{_≡_, refl, sym, ap, _∙_}
+use mathlib.Core.Bool.{Bool, true, false}
+use mathlib.Core.Option.{Option, none, some}
+use Prim.Native.Nat.{ℕ}
+use Rattle.word.specs.Words.{pick}
+use Rattle.step.specs.Kinds.{Kind, kindOf, Input, in0, in1, in2}
+use Rattle.step.specs.Firing.{View, Effect, Program, stop, ask, give, perform, taking, alsoTaking, withWord, waits, giving, fillable}
+use Rattle.step.specs.Machines.{program}
+use Rattle.step.specs.declared.Record.{Record}
+use Rattle.step.specs.declared.Token.{Token}
+use Rattle.step.specs.declared.Seen.{Seen}
+use Rattle.step.specs.declared.Act.{Act}
+use Rattle.step.specs.declared.Firing.{Firing}
+use Rattle.step.specs.declared.Firing.the-variants.{NotReady, Fires}
+
+abbrev pub tokenOf : Token → Option ℕ
+tokenOf t = pick (t .full) (some (t .word)) none
+
+abbrev pub viewOf : Seen → Record → View
+viewOf s r =
+    record { word0 = tokenOf (s .in0); word1 = tokenOf (s .in1); word2 = tokenOf (s .in2); room0 = s .room0; room1 = s .room1; own = r }
+
+abbrev pub effectOf : Act → Effect
+effectOf a =
+    record {
+      takes0 = a .takes0;
+      takes1 = a .takes1;
+      takes2 = a .takes2;
+      gives0 = tokenOf (a .gives0);
+      gives1 = tokenOf (a .gives1);
+      next = a .next;
+    }
+
+abbrev pub shown : Firing → Option Effect
+shown NotReady = none
+shown (Fires a) = some (effectOf a)
+
+-- the words on the inputs, full or not
+abbrev pub wordsOf : Seen → Input → ℕ
+wordsOf s in0 = s .in0 .word
+wordsOf s in1 = s .in1 .word
+wordsOf s in2 = s .in2 .word
+
+abbrev pub plain : Option ℕ → Option ℕ → Record → Effect
+plain x y r = record { takes0 = false; takes1 = false; takes2 = false; gives0 = x; gives1 = y; next = r }
+
+unfoldable pub decided : Program → (Input → ℕ) → Option Effect
+decided stop w = none
+decided (ask k f) w = alsoTaking k (decided (f (w k)) w)
+decided (give x y r) w = some (plain x y r)
+
+abbrev pub decidedBy : Option Kind → ℕ → Record → (Input → ℕ) → Option Effect
+decidedBy none code r w = none
+decidedBy (some κ) code r w = decided (program κ code r) w
+
+abbrev pub decidedOf : ℕ → ℕ → Record → (Input → ℕ) → Option Effect
+decidedOf kind code r w = decidedBy (kindOf kind) code r w
+
+abbrev pub bothOf : Bool → Bool → Bool
+bothOf true b = b
+bothOf false b = false
+
+abbrev pub unless : Bool → Bool → Bool
+unless true b = b
+unless false b = true
+
+-- the inputs it will take are full, and the outputs it will fill are empty
+unfoldable pub ready : Seen → Effect → Bool
+ready s e =
+    bothOf
+    (bothOf (unless (e .takes0) (s .in0 .full)) (bothOf (unless (e .takes1) (s .in1 .full)) (unless (e .takes2) (s .in2 .full))))
+    (bothOf (fillable (e .gives0) (s .room0)) (fillable (e .gives1) (s .room1)))
+
+abbrev pub whenReady : Seen → Option Effect → Option Effect
+whenReady s none = none
+whenReady s (some e) = pick (ready s e) (some e) none
