@@ -10,9 +10,11 @@
 use mathlib.Core.Bool.{Bool, true, false}
 use mathlib.Core.Option.{Option, none, some}
 use mathlib.Core.List.{List, [], _∷_}
-use Prim.Native.Nat.{ℕ, zero, suc}
+use mathlib.Core.Path.{_≡_, refl}
+use Prim.Native.Nat.{ℕ, zero, suc, _≤_, _<_}
+use native.Mathlib.Omega.{arith}
 use lib.Dec.{ltb}
-use lib.ListN.{getElem?}
+use lib.ListN.{length, getElem?}
 use Rattle.word.specs.Words.{pick, wordLimit}
 
 pub data Kind : Type 0 where
@@ -127,3 +129,14 @@ outputSort FORK c s k = s
 outputSort DRAIN c s k = s
 outputSort OP c s k = operatorSort c
 outputSort PICK c s k = s
+
+-- ---- laws
+
+past-end {ℓ} : {A : Type ℓ} (xs : List A) (i : ℕ) → length xs ≤ i → getElem? xs i ≡ none
+past-end [] i h = refl
+past-end (x ∷ xs) zero h = absurd (omega arith)
+past-end (x ∷ xs) (suc i) h = past-end xs i (omega arith)
+
+pub no-kind-past-8 : (k : ℕ) → 8 < k → kindOf k ≡ none
+unfolding kindOf
+no-kind-past-8 k h = past-end kinds k h

@@ -2,3 +2,4 @@ pub mod Kinds
 pub mod Firing
 pub mod Machines
 pub mod Shown
+pub mod Locality

@@ -84,3 +84,67 @@ ready s e =
 abbrev pub whenReady : Seen → Option Effect → Option Effect
 whenReady s none = none
 whenReady s (some e) = pick (ready s e) (some e) none
+
+-- ---- readiness apart from decision
+
+unless-true : (t : Bool) → unless t true ≡ true
+unless-true true = refl
+unless-true false = refl
+
+never : (a : Bool) → bothOf a false ≡ false
+never true = refl
+never false = refl
+
+abbrev full : Seen → Input → Bool
+full s in0 = s .in0 .full
+full s in1 = s .in1 .full
+full s in2 = s .in2 .full
+
+-- an input that is full may be taken too; one that is empty may not
+taking-full : (s : Seen) (k : Input) (e : Effect) → full s k ≡ true → ready s (taking k e) ≡ ready s e
+unfolding ready
+taking-full s in0 e h = simp (h, unless-true (e .takes0))
+taking-full s in1 e h = simp (h, unless-true (e .takes1))
+taking-full s in2 e h = simp (h, unless-true (e .takes2))
+
+taking-empty : (s : Seen) (k : Input) (e : Effect) → full s k ≡ false → ready s (taking k e) ≡ false
+unfolding ready
+taking-empty s in0 e h = simp h
+taking-empty s in1 e h = simp (h, never)
+taking-empty s in2 e h = simp (h, never)
+
+also-full : (s : Seen) (k : Input) (o : Option Effect) → full s k ≡ true → alsoTaking k (whenReady s o) ≡ whenReady s (alsoTaking k o)
+also-full s k none h = refl
+also-full s k (some e) h = rw (taking-full s k e h) (either (ready s e))
+  where
+    either : (b : Bool) → alsoTaking k (pick b (some e) none) ≡ pick b (some (taking k e)) none
+    either true = refl
+    either false = refl
+
+also-empty : (s : Seen) (k : Input) (o : Option Effect) → full s k ≡ false → whenReady s (alsoTaking k o) ≡ none
+also-empty s k none h = refl
+also-empty s k (some e) h = rw (taking-empty s k e h)
+
+giving-ready : (a b : Bool) (x y : Option ℕ) (r : Record) → giving a b x y r ≡ pick (bothOf a b) (some (plain x y r)) none
+giving-ready true true x y r = refl
+giving-ready true false x y r = refl
+giving-ready false b x y r = refl
+
+waits-full : (s : Seen) (r : Record) (k : Input) → waits (viewOf s r) k ≡ pick (full s k) (some (wordsOf s k)) none
+waits-full s r in0 = refl
+waits-full s r in1 = refl
+waits-full s r in2 = refl
+
+asking : (s : Seen) (k : Input) (g : ℕ → Option Effect) (o : Option Effect) → g (wordsOf s k) ≡ alsoTaking k (whenReady s o) → (b : Bool) → full s k ≡ b
+    → withWord (pick b (some (wordsOf s k)) none) g ≡ whenReady s (alsoTaking k o)
+asking s k g o h true e = h ∙ also-full s k o e
+asking s k g o h false e = sym (also-empty s k o e)
+
+pub ready-apart : (p : Program) (s : Seen) (r : Record) → perform p (viewOf s r) ≡ whenReady s (decided p (wordsOf s))
+unfolding decided ready
+ready-apart stop s r = refl
+ready-apart (give x y q) s r = giving-ready (fillable x (s .room0)) (fillable y (s .room1)) x y q
+ready-apart (ask k f) s r =
+    ap (λ (t : Option ℕ). withWord t (λ x. alsoTaking k (perform (f x) (viewOf s r)))) (waits-full s r k)
+    ∙ asking s k (λ x. alsoTaking k (perform (f x) (viewOf s r))) (decided (f (wordsOf s k)) (wordsOf s))
+    (ap (alsoTaking k) (ready-apart (f (wordsOf s k)) s r)) (full s k) refl

@@ -42,10 +42,27 @@ pub enum Firing {
     Fires(Act),
 }
 
-const NOTHING: Token = Token { full: false, word: 0 };
-const TRUE: Token = Token { full: true, word: 1 };
-const FALSE: Token = Token { full: true, word: 0 };
-const REST: Record = Record { phase: 0, r0: 0, r1: 0, r2: 0 };
+const NOTHING: Token = Token {
+    full: false,
+    word: 0,
+};
+
+const TRUE: Token = Token {
+    full: true,
+    word: 1,
+};
+
+const FALSE: Token = Token {
+    full: true,
+    word: 0,
+};
+
+const REST: Record = Record {
+    phase: 0,
+    r0: 0,
+    r1: 0,
+    r2: 0,
+};
 
 // What each kind would do next, by its phase and then the flag it takes. Whether it may is asked once, in `when_ready`.
 
@@ -58,15 +75,52 @@ fn stream(code: u32, seen: Seen, own: Record) -> Firing
     match phase {
         0 => match step {
             0 => Firing::NotReady,
-            _ => Firing::Fires(Act { takes0: true, takes1: true, takes2: true, gives0: NOTHING, gives1: NOTHING, next: Record { phase: 1, r0: seen.in0.word, r1: step, r2: seen.in2.word } }),
+            _ => Firing::Fires(Act {
+                takes0: true,
+                takes1: true,
+                takes2: true,
+                gives0: NOTHING,
+                gives1: NOTHING,
+                next: Record {
+                    phase: 1,
+                    r0: seen.in0.word,
+                    r1: step,
+                    r2: seen.in2.word,
+                },
+            }),
         },
         1 => {
             let holds = word::condition(code % 5, own.r0, own.r2);
             match holds {
-                0 => Firing::Fires(Act { takes0: false, takes1: false, takes2: false, gives0: Token { full: true, word: own.r0 }, gives1: FALSE, next: REST }),
+                0 => Firing::Fires(Act {
+                    takes0: false,
+                    takes1: false,
+                    takes2: false,
+                    gives0: Token {
+                        full: true,
+                        word: own.r0,
+                    },
+                    gives1: FALSE,
+                    next: REST,
+                }),
                 _ => {
                     let index = word::update(code / 5, own.r0, own.r1);
-                    Firing::Fires(Act { takes0: false, takes1: false, takes2: false, gives0: Token { full: true, word: own.r0 }, gives1: TRUE, next: Record { phase: 1, r0: index, r1: own.r1, r2: own.r2 } })
+                    Firing::Fires(Act {
+                        takes0: false,
+                        takes1: false,
+                        takes2: false,
+                        gives0: Token {
+                            full: true,
+                            word: own.r0,
+                        },
+                        gives1: TRUE,
+                        next: Record {
+                            phase: 1,
+                            r0: index,
+                            r1: own.r1,
+                            r2: own.r2,
+                        },
+                    })
                 }
             }
         }
@@ -82,12 +136,56 @@ fn gate(seen: Seen, own: Record) -> Firing
     let condition = seen.in1.word;
     match phase {
         0 => match condition {
-            0 => Firing::Fires(Act { takes0: true, takes1: true, takes2: false, gives0: NOTHING, gives1: NOTHING, next: REST }),
-            _ => Firing::Fires(Act { takes0: true, takes1: true, takes2: false, gives0: Token { full: true, word: seen.in0.word }, gives1: NOTHING, next: Record { phase: 1, r0: 0, r1: 0, r2: 0 } }),
+            0 => Firing::Fires(Act {
+                takes0: true,
+                takes1: true,
+                takes2: false,
+                gives0: NOTHING,
+                gives1: NOTHING,
+                next: REST,
+            }),
+            _ => Firing::Fires(Act {
+                takes0: true,
+                takes1: true,
+                takes2: false,
+                gives0: Token {
+                    full: true,
+                    word: seen.in0.word,
+                },
+                gives1: NOTHING,
+                next: Record {
+                    phase: 1,
+                    r0: 0,
+                    r1: 0,
+                    r2: 0,
+                },
+            }),
         },
         1 => match condition {
-            0 => Firing::Fires(Act { takes0: true, takes1: true, takes2: false, gives0: NOTHING, gives1: FALSE, next: REST }),
-            _ => Firing::Fires(Act { takes0: true, takes1: true, takes2: false, gives0: Token { full: true, word: seen.in0.word }, gives1: TRUE, next: Record { phase: 1, r0: 0, r1: 0, r2: 0 } }),
+            0 => Firing::Fires(Act {
+                takes0: true,
+                takes1: true,
+                takes2: false,
+                gives0: NOTHING,
+                gives1: FALSE,
+                next: REST,
+            }),
+            _ => Firing::Fires(Act {
+                takes0: true,
+                takes1: true,
+                takes2: false,
+                gives0: Token {
+                    full: true,
+                    word: seen.in0.word,
+                },
+                gives1: TRUE,
+                next: Record {
+                    phase: 1,
+                    r0: 0,
+                    r1: 0,
+                    r2: 0,
+                },
+            }),
         },
         _ => Firing::NotReady,
     }
@@ -100,12 +198,61 @@ fn carry(seen: Seen, own: Record) -> Firing
     let phase = own.phase;
     let d = seen.in0.word;
     match phase {
-        0 => Firing::Fires(Act { takes0: false, takes1: true, takes2: false, gives0: Token { full: true, word: seen.in1.word }, gives1: NOTHING, next: Record { phase: 1, r0: 0, r1: 0, r2: 0 } }),
+        0 => Firing::Fires(Act {
+            takes0: false,
+            takes1: true,
+            takes2: false,
+            gives0: Token {
+                full: true,
+                word: seen.in1.word,
+            },
+            gives1: NOTHING,
+            next: Record {
+                phase: 1,
+                r0: 0,
+                r1: 0,
+                r2: 0,
+            },
+        }),
         1 => match d {
-            0 => Firing::Fires(Act { takes0: true, takes1: false, takes2: false, gives0: NOTHING, gives1: NOTHING, next: REST }),
-            _ => Firing::Fires(Act { takes0: true, takes1: false, takes2: false, gives0: NOTHING, gives1: NOTHING, next: Record { phase: 2, r0: 0, r1: 0, r2: 0 } }),
+            0 => Firing::Fires(Act {
+                takes0: true,
+                takes1: false,
+                takes2: false,
+                gives0: NOTHING,
+                gives1: NOTHING,
+                next: REST,
+            }),
+            _ => Firing::Fires(Act {
+                takes0: true,
+                takes1: false,
+                takes2: false,
+                gives0: NOTHING,
+                gives1: NOTHING,
+                next: Record {
+                    phase: 2,
+                    r0: 0,
+                    r1: 0,
+                    r2: 0,
+                },
+            }),
         },
-        2 => Firing::Fires(Act { takes0: false, takes1: false, takes2: true, gives0: Token { full: true, word: seen.in2.word }, gives1: NOTHING, next: Record { phase: 1, r0: 0, r1: 0, r2: 0 } }),
+        2 => Firing::Fires(Act {
+            takes0: false,
+            takes1: false,
+            takes2: true,
+            gives0: Token {
+                full: true,
+                word: seen.in2.word,
+            },
+            gives1: NOTHING,
+            next: Record {
+                phase: 1,
+                r0: 0,
+                r1: 0,
+                r2: 0,
+            },
+        }),
         _ => Firing::NotReady,
     }
 }
@@ -117,10 +264,47 @@ fn invariant(seen: Seen, own: Record) -> Firing
     let phase = own.phase;
     let d = seen.in0.word;
     match phase {
-        0 => Firing::Fires(Act { takes0: false, takes1: true, takes2: false, gives0: Token { full: true, word: seen.in1.word }, gives1: NOTHING, next: Record { phase: 1, r0: seen.in1.word, r1: 0, r2: 0 } }),
+        0 => Firing::Fires(Act {
+            takes0: false,
+            takes1: true,
+            takes2: false,
+            gives0: Token {
+                full: true,
+                word: seen.in1.word,
+            },
+            gives1: NOTHING,
+            next: Record {
+                phase: 1,
+                r0: seen.in1.word,
+                r1: 0,
+                r2: 0,
+            },
+        }),
         1 => match d {
-            0 => Firing::Fires(Act { takes0: true, takes1: false, takes2: false, gives0: NOTHING, gives1: NOTHING, next: REST }),
-            _ => Firing::Fires(Act { takes0: true, takes1: false, takes2: false, gives0: Token { full: true, word: own.r0 }, gives1: NOTHING, next: Record { phase: 1, r0: own.r0, r1: 0, r2: 0 } }),
+            0 => Firing::Fires(Act {
+                takes0: true,
+                takes1: false,
+                takes2: false,
+                gives0: NOTHING,
+                gives1: NOTHING,
+                next: REST,
+            }),
+            _ => Firing::Fires(Act {
+                takes0: true,
+                takes1: false,
+                takes2: false,
+                gives0: Token {
+                    full: true,
+                    word: own.r0,
+                },
+                gives1: NOTHING,
+                next: Record {
+                    phase: 1,
+                    r0: own.r0,
+                    r1: 0,
+                    r2: 0,
+                },
+            }),
         },
         _ => Firing::NotReady,
     }
@@ -132,11 +316,28 @@ fn split(seen: Seen, own: Record) -> Firing
 {
     let phase = own.phase;
     let flag = seen.in0.word;
-    let value = Token { full: true, word: seen.in1.word };
+    let value = Token {
+        full: true,
+        word: seen.in1.word,
+    };
     match phase {
         0 => match flag {
-            0 => Firing::Fires(Act { takes0: true, takes1: true, takes2: false, gives0: NOTHING, gives1: value, next: REST }),
-            _ => Firing::Fires(Act { takes0: true, takes1: true, takes2: false, gives0: value, gives1: NOTHING, next: REST }),
+            0 => Firing::Fires(Act {
+                takes0: true,
+                takes1: true,
+                takes2: false,
+                gives0: NOTHING,
+                gives1: value,
+                next: REST,
+            }),
+            _ => Firing::Fires(Act {
+                takes0: true,
+                takes1: true,
+                takes2: false,
+                gives0: value,
+                gives1: NOTHING,
+                next: REST,
+            }),
         },
         _ => Firing::NotReady,
     }
@@ -146,9 +347,19 @@ fn fork(seen: Seen, own: Record) -> Firing
     ensures decision { λ r. ⌜ shown r ≡ decided (program FORK 0 own) (wordsOf seen) ⌝ }
 {
     let phase = own.phase;
-    let value = Token { full: true, word: seen.in0.word };
+    let value = Token {
+        full: true,
+        word: seen.in0.word,
+    };
     match phase {
-        0 => Firing::Fires(Act { takes0: true, takes1: false, takes2: false, gives0: value, gives1: value, next: REST }),
+        0 => Firing::Fires(Act {
+            takes0: true,
+            takes1: false,
+            takes2: false,
+            gives0: value,
+            gives1: value,
+            next: REST,
+        }),
         _ => Firing::NotReady,
     }
 }
@@ -158,7 +369,14 @@ fn drain(seen: Seen, own: Record) -> Firing
 {
     let phase = own.phase;
     match phase {
-        0 => Firing::Fires(Act { takes0: true, takes1: false, takes2: false, gives0: NOTHING, gives1: NOTHING, next: REST }),
+        0 => Firing::Fires(Act {
+            takes0: true,
+            takes1: false,
+            takes2: false,
+            gives0: NOTHING,
+            gives1: NOTHING,
+            next: REST,
+        }),
         _ => Firing::NotReady,
     }
 }
@@ -169,7 +387,17 @@ fn operator(code: u32, seen: Seen, own: Record) -> Firing
     let phase = own.phase;
     let value = word::operate(code, seen.in0.word, seen.in1.word);
     match phase {
-        0 => Firing::Fires(Act { takes0: true, takes1: true, takes2: false, gives0: Token { full: true, word: value }, gives1: NOTHING, next: REST }),
+        0 => Firing::Fires(Act {
+            takes0: true,
+            takes1: true,
+            takes2: false,
+            gives0: Token {
+                full: true,
+                word: value,
+            },
+            gives1: NOTHING,
+            next: REST,
+        }),
         _ => Firing::NotReady,
     }
 }
@@ -182,8 +410,28 @@ fn picker(seen: Seen, own: Record) -> Firing
     let flag = seen.in0.word;
     match phase {
         0 => match flag {
-            0 => Firing::Fires(Act { takes0: true, takes1: true, takes2: true, gives0: Token { full: true, word: seen.in2.word }, gives1: NOTHING, next: REST }),
-            _ => Firing::Fires(Act { takes0: true, takes1: true, takes2: true, gives0: Token { full: true, word: seen.in1.word }, gives1: NOTHING, next: REST }),
+            0 => Firing::Fires(Act {
+                takes0: true,
+                takes1: true,
+                takes2: true,
+                gives0: Token {
+                    full: true,
+                    word: seen.in2.word,
+                },
+                gives1: NOTHING,
+                next: REST,
+            }),
+            _ => Firing::Fires(Act {
+                takes0: true,
+                takes1: true,
+                takes2: true,
+                gives0: Token {
+                    full: true,
+                    word: seen.in1.word,
+                },
+                gives1: NOTHING,
+                next: REST,
+            }),
         },
         _ => Firing::NotReady,
     }
@@ -224,8 +472,17 @@ fn both(a: bool, b: bool) -> bool
 fn is_ready(seen: Seen, act: Act) -> bool
     ensures answer { λ r. ⌜ r ≡ ready seen (effectOf act) ⌝ }
 {
-    let ins = both(fit(act.takes0, seen.in0.full), both(fit(act.takes1, seen.in1.full), fit(act.takes2, seen.in2.full)));
-    let outs = both(fit(act.gives0.full, seen.room0), fit(act.gives1.full, seen.room1));
+    let ins = both(
+        fit(act.takes0, seen.in0.full),
+        both(
+            fit(act.takes1, seen.in1.full),
+            fit(act.takes2, seen.in2.full),
+        ),
+    );
+    let outs = both(
+        fit(act.gives0.full, seen.room0),
+        fit(act.gives1.full, seen.room1),
+    );
     both(ins, outs)
 }
 

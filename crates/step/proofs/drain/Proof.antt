@@ -1,15 +1,18 @@
+-- `step::drain` meets its contract. Arm by arm: the phase fixes the program. Assumes nothing.
+use mathlib.Core.Path.{refl}
+use Rattle.step.specs.Machines.{drain}
+use Rattle.step.proofs.Laws.{past-0}
+use Rattle.step.specs.Shown.{decided}
 use Rattle.step.proofs.drain.Statement.{statement}
 use Rattle.step.proofs.drain.Tie as tie
-use Rattle.step.proofs.drain.Reads as reads
-use Rattle.step.proofs.drain.Lts as lts
 
--- src/lib.rt:156:1
 returns : tie.Need-returns
-returns c = ?
+unfolding decided
+returns c = simp (c .match .keys1)
 
--- src/lib.rt:156:1
 returns-2 : tie.Need-returns-2
-returns-2 c = ?
+unfolding decided
+returns-2 c = rw (past-0 drain (λ p. refl) _ (c .match .rest .1))
 
 pub drain-spec : {M : Type 1} → statement M
 drain-spec = tie.close (tie.spec returns returns-2)

@@ -1,23 +1,26 @@
+-- `step::invariant` meets its contract. Arm by arm: the phase, then `d`, fix the program. Assumes nothing.
+use mathlib.Core.Path.{refl}
+use Rattle.step.specs.Machines.{invariant}
+use Rattle.step.proofs.Laws.{true-flag, past-1}
+use Rattle.step.specs.Shown.{decided}
 use Rattle.step.proofs.invariant.Statement.{statement}
 use Rattle.step.proofs.invariant.Tie as tie
-use Rattle.step.proofs.invariant.Reads as reads
-use Rattle.step.proofs.invariant.Lts as lts
 
--- src/lib.rt:114:1
 returns : tie.Need-returns
-returns c = ?
+unfolding decided
+returns c = simp (c .match .keys1)
 
--- src/lib.rt:114:1
 returns-2 : tie.Need-returns-2
-returns-2 c = ?
+unfolding decided
+returns-2 c = simp (c .before .match .keys2, c .match2 .keys1)
 
--- src/lib.rt:114:1
 returns-3 : tie.Need-returns-3
-returns-3 c = ?
+unfolding decided
+returns-3 c = let q = true-flag (c .match2 .rest .1) in simp (c .before .match .keys2, q .1)
 
--- src/lib.rt:114:1
 returns-4 : tie.Need-returns-4
-returns-4 c = ?
+unfolding decided
+returns-4 c = rw (past-1 (invariant _) (λ p. refl) _ (c .match .rest .0 .1) (c .match .rest .1))
 
 pub invariant-spec : {M : Type 1} → statement M
 invariant-spec = tie.close (tie.spec returns returns-2 returns-3 returns-4)

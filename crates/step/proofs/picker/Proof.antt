@@ -1,19 +1,22 @@
+-- `step::picker` meets its contract. Arm by arm: the phase, then the flag, fix the program. Assumes nothing.
+use mathlib.Core.Path.{refl}
+use Rattle.step.specs.Machines.{picker}
+use Rattle.step.proofs.Laws.{past-0, true-flag}
+use Rattle.step.specs.Shown.{decided}
 use Rattle.step.proofs.picker.Statement.{statement}
 use Rattle.step.proofs.picker.Tie as tie
-use Rattle.step.proofs.picker.Reads as reads
-use Rattle.step.proofs.picker.Lts as lts
 
--- src/lib.rt:178:1
 returns : tie.Need-returns
-returns c = ?
+unfolding decided
+returns c = simp (c .before .match .keys1, c .match2 .keys1)
 
--- src/lib.rt:178:1
 returns-2 : tie.Need-returns-2
-returns-2 c = ?
+unfolding decided
+returns-2 c = let q = true-flag (c .match2 .rest .1) in simp (c .before .match .keys1, q .1)
 
--- src/lib.rt:178:1
 returns-3 : tie.Need-returns-3
-returns-3 c = ?
+unfolding decided
+returns-3 c = rw (past-0 picker (λ p. refl) _ (c .match .rest .1))
 
 pub picker-spec : {M : Type 1} → statement M
 picker-spec = tie.close (tie.spec returns returns-2 returns-3)

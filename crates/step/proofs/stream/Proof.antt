@@ -1,38 +1,37 @@
+-- `step::stream` meets its contract. Arm by arm: the phase, then the step or the condition, fix the program. Assumes nothing.
+use mathlib.Core.Path.{refl}
+use Rattle.step.specs.Machines.{stream}
+use Rattle.step.proofs.Laws.{true-flag, past-1}
+use Rattle.step.specs.Shown.{decided}
 use borrow.Author.Needs.{needs}
 use Rattle.step.proofs.stream.Statement.{statement}
 use Rattle.step.proofs.stream.Tie as tie
-use Rattle.step.proofs.stream.Reads as reads
-use Rattle.step.proofs.stream.Lts as lts
-use Rattle.word.proofs.condition.Reads as condition-reads
-use Rattle.word.proofs.update.Reads as update-reads
 
--- src/lib.rt:64:17
 condition-requires : tie.Need-condition-requires
 condition-requires c κs = search needs
 
--- src/lib.rt:68:25
 update-requires : tie.Need-update-requires
 update-requires c κs = search needs
 
--- src/lib.rt:53:1
 returns : tie.Need-returns
-returns c = ?
+unfolding decided
+returns c = simp (c .before .match .keys1, c .match2 .keys1)
 
--- src/lib.rt:53:1
 returns-2 : tie.Need-returns-2
-returns-2 c = ?
+unfolding decided
+returns-2 c = let q = true-flag (c .match2 .rest .1) in simp (c .before .match .keys1, q .1)
 
--- src/lib.rt:53:1
 returns-3 : tie.Need-returns-3
-returns-3 c = ?
+unfolding decided
+returns-3 c = simp (c .before .before .match .keys2, ← c .before .condition .ensures, c .match3 .keys1)
 
--- src/lib.rt:53:1
 returns-4 : tie.Need-returns-4
-returns-4 c = ?
+unfolding decided
+returns-4 c = let q = true-flag (c .before .match3 .rest .1) in simp (c .before .before .before .match .keys2, ← c .before .before .condition .ensures, q .1, c .update .ensures)
 
--- src/lib.rt:53:1
 returns-5 : tie.Need-returns-5
-returns-5 c = ?
+unfolding decided
+returns-5 c = rw (past-1 (stream _ _) (λ p. refl) _ (c .match .rest .0 .1) (c .match .rest .1))
 
 pub stream-spec : {M : Type 1} → statement M
 stream-spec =
