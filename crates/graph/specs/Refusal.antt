@@ -1,0 +1,113 @@
+-- The refusals of a graph: document 01, 'Refusal numbers', 11 to 15. Each test is over the whole graph before the next.
+--
+--   hasShape       11 SHAPE       the counts are in their limits and the length is theirs
+--   rowsRight      12 NODE        starts and rows are right, and W is S plus all outputs
+--   wiresBelow     13 WIRE        every input and result is below W
+--   readOnce       14 READERS     every wire is read once
+--   sortsAgree     15 SORT        every input and result has the sort of its wire
+--   graphRefusal                  the first of them that fails, else 0
+--
+-- Assumes nothing.
+use Prim.Native.Nat.{ℕ, zero, suc, _+_, _*_}
+use mathlib.Core.Bool.{Bool, true, false, _&&_}
+use mathlib.Core.List.{List, [], _∷_, _++_}
+use mathlib.Core.Option.{Option, none, some}
+use lib.Dec.{eqb, ltb, leb}
+use lib.ListN.{getD, length}
+use Rattle.word.specs.Words.{pick}
+use Rattle.step.specs.Kinds.{Kind, inputs, outputs, codes, ownSorts, inputSort, Input, in0, in1, in2}
+use Rattle.graph.specs.Below.{every, times}
+use Rattle.graph.specs.Graph.{absent, nodeCount, wireCount, startCount, resultCount, startKindAt, startWordAt, inputsBefore, resultAt, Node, nodeAt, hasInput, wireOn, firstAt, reads, wireSorts, sortAt}
+
+-- "under 4 words, counts beyond 4,096 / 8,192 / 512 / 512, length not 4 + 2S + R + 7n"
+unfoldable pub hasShape : List ℕ → Bool
+hasShape g =
+    leb 4 (length g)
+    && (leb (nodeCount g) 4096
+    && (leb (wireCount g) 8192
+    && (leb (startCount g) 512
+    && (leb (resultCount g) 512
+    && eqb (length g) (4 + 2 * startCount g + resultCount g + 7 * nodeCount g)))))
+
+-- "start row, kind, code or sort wrong, an absent input or output not X, a first output number wrong, or W not S plus all outputs"
+-- A start is 0 and its input number, or 1 and any constant.
+unfoldable pub startRight : List ℕ → ℕ → Bool
+startRight g k = pick (eqb (startKindAt g k) 0) (eqb (startWordAt g k) (inputsBefore g k)) (eqb (startKindAt g k) 1)
+
+abbrev pub everyInput : (Input → Bool) → Bool
+everyInput test = test in0 && (test in1 && test in2)
+
+-- An absent input is X. A present one may be any number here: X there is 13.
+abbrev pub spareInput : Kind → Input → ℕ → Bool
+spareInput κ k w = pick (hasInput κ k) true (eqb w absent)
+
+-- The first output is the next number; X where the kind has none.
+abbrev pub firstOutput : Kind → ℕ → ℕ
+firstOutput κ next = pick (eqb (outputs κ) 0) absent next
+
+unfoldable pub rowRight : Option Node → ℕ → Bool
+rowRight none next = false
+rowRight (some nd) next =
+    ltb (nd .code) (codes (nd .kind))
+    && (ltb (nd .sort) (ownSorts (nd .kind))
+    && (everyInput (λ k. spareInput (nd .kind) k (wireOn nd k))
+    && eqb (nd .first) (firstOutput (nd .kind) next)))
+
+abbrev pub nodeRight : List ℕ → ℕ → Bool
+nodeRight g i = rowRight (nodeAt g i) (firstAt g i)
+
+unfoldable pub rowsRight : List ℕ → Bool
+rowsRight g =
+    every (startCount g) (startRight g)
+    && (every (nodeCount g) (nodeRight g)
+    && eqb (wireCount g) (firstAt g (nodeCount g)))
+
+-- "an input or result not below W"
+abbrev pub inputBelow : Kind → Input → ℕ → ℕ → Bool
+inputBelow κ k w wires = pick (hasInput κ k) (ltb w wires) true
+
+unfoldable pub rowBelow : Option Node → ℕ → Bool
+rowBelow none wires = true
+rowBelow (some nd) wires = everyInput (λ k. inputBelow (nd .kind) k (wireOn nd k) wires)
+
+abbrev pub nodeBelow : List ℕ → ℕ → Bool
+nodeBelow g i = rowBelow (nodeAt g i) (wireCount g)
+
+abbrev pub resultBelow : List ℕ → ℕ → Bool
+resultBelow g k = ltb (resultAt g k) (wireCount g)
+
+unfoldable pub wiresBelow : List ℕ → Bool
+wiresBelow g = every (nodeCount g) (nodeBelow g) && every (resultCount g) (resultBelow g)
+
+-- "a wire not read once"
+abbrev pub onceRead : List ℕ → ℕ → Bool
+onceRead g w = eqb (times w (reads g)) 1
+
+unfoldable pub readOnce : List ℕ → Bool
+readOnce g = every (wireCount g) (onceRead g)
+
+-- "sorts differ"
+abbrev pub inputSorted : List ℕ → Kind → ℕ → Input → ℕ → Bool
+inputSorted sorts κ s k w = pick (hasInput κ k) (eqb (getD sorts w 0) (inputSort κ s k)) true
+
+unfoldable pub rowSorted : List ℕ → Option Node → Bool
+rowSorted sorts none = true
+rowSorted sorts (some nd) = everyInput (λ k. inputSorted sorts (nd .kind) (nd .sort) k (wireOn nd k))
+
+abbrev pub nodeSorted : List ℕ → ℕ → Bool
+nodeSorted g i = rowSorted (wireSorts g) (nodeAt g i)
+
+abbrev pub resultSorted : List ℕ → ℕ → Bool
+resultSorted g k = eqb (sortAt g (resultAt g k)) 0
+
+unfoldable pub sortsAgree : List ℕ → Bool
+sortsAgree g = every (nodeCount g) (nodeSorted g) && every (resultCount g) (resultSorted g)
+
+-- "Graphs: 11 to 15 in that order". A `let` waits, so no row is read before the counts are right.
+unfoldable pub graphRefusal : List ℕ → ℕ
+graphRefusal g =
+    let sort : ℕ = pick (sortsAgree g) 0 15 in
+    let readers : ℕ = pick (readOnce g) sort 14 in
+    let wire : ℕ = pick (wiresBelow g) readers 13 in
+    let node : ℕ = pick (rowsRight g) wire 12 in
+    pick (hasShape g) node 11
