@@ -3,3 +3,4 @@ pub mod Firing
 pub mod Machines
 pub mod Shown
 pub mod Locality
+pub mod Kept

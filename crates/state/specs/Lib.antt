@@ -1,0 +1,6 @@
+pub mod State
+pub mod Net
+pub mod Legal
+pub mod Load
+pub mod Run
+pub mod Examples

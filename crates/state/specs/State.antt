@@ -1,0 +1,78 @@
+-- A state as words: document 01, 'Firing', its paragraph 'State'. `s` is the whole list of words, `W` the number of wires.
+--
+--   tokenAt, hasRoom          what stands on a wire, and whether it may be filled
+--   recordAt                  a node's phase and three registers
+--   Stores, stored            words stored at places, one after the other
+--   emptied, filled, kept     the stores that take a token, give one, and leave a record
+--
+-- Assumes nothing.
+use Prim.Native.Nat.{ℕ, zero, suc, _+_, _*_}
+use mathlib.Core.Bool.{Bool, true, false}
+use mathlib.Core.List.{List, [], _∷_}
+use mathlib.Core.Option.{Option, none, some}
+use lib.ListN.{getD, set}
+use Rattle.step.specs.declared.Record.{Record}
+
+-- "per wire full (0 or 1) and word (0 when empty)"
+abbrev pub fullPlace : ℕ → ℕ
+fullPlace w = 2 * w
+
+abbrev pub wordPlace : ℕ → ℕ
+wordPlace w = 2 * w + 1
+
+-- "then per node phase and r0, r1, r2"
+abbrev pub recordPlace : ℕ → ℕ → ℕ
+recordPlace W i = 2 * W + 4 * i
+
+abbrev pub token : ℕ → ℕ → Option ℕ
+token zero x = none
+token (suc f) x = some x
+
+abbrev pub isEmpty : ℕ → Bool
+isEmpty zero = true
+isEmpty (suc f) = false
+
+abbrev pub tokenAt : List ℕ → ℕ → Option ℕ
+tokenAt s w = token (getD s (fullPlace w) 0) (getD s (wordPlace w) 0)
+
+-- A place that a node does not have holds no word, and has no room.
+abbrev pub tokenOn : List ℕ → Option ℕ → Option ℕ
+tokenOn s none = none
+tokenOn s (some w) = tokenAt s w
+
+abbrev pub hasRoom : List ℕ → Option ℕ → Bool
+hasRoom s none = false
+hasRoom s (some w) = isEmpty (getD s (fullPlace w) 0)
+
+abbrev pub recordAt : ℕ → List ℕ → ℕ → Record
+recordAt W s i =
+    record {
+      phase = getD s (recordPlace W i) 0;
+      r0 = getD s (recordPlace W i + 1) 0;
+      r1 = getD s (recordPlace W i + 2) 0;
+      r2 = getD s (recordPlace W i + 3) 0;
+    }
+
+-- Stores are made in order, each a place and a word.
+abbrev pub Stores : Type 0
+Stores = List (ℕ × ℕ)
+
+abbrev pub stored : Stores → List ℕ → List ℕ
+stored [] s = s
+stored (x ∷ xs) s = stored xs (set s (x .0) (x .1))
+
+-- a wire whose token is taken holds 0 0
+abbrev pub emptied : Option ℕ → Bool → Stores
+emptied none b = []
+emptied (some w) false = []
+emptied (some w) true = (fullPlace w, 0) ∷ (wordPlace w, 0) ∷ []
+
+-- a wire that is given a word holds 1 and the word
+abbrev pub filled : Option ℕ → Option ℕ → Stores
+filled none g = []
+filled (some w) none = []
+filled (some w) (some x) = (fullPlace w, 1) ∷ (wordPlace w, x) ∷ []
+
+abbrev pub kept : ℕ → ℕ → Record → Stores
+kept W i r =
+    (recordPlace W i, r .phase) ∷ (recordPlace W i + 1, r .r0) ∷ (recordPlace W i + 2, r .r1) ∷ (recordPlace W i + 3, r .r2) ∷ []

@@ -1,0 +1,1 @@
+// Definitions and theorems alone; the code stands in the crate machine.
