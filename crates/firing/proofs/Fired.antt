@@ -88,7 +88,7 @@ module _ (g : List ℕ) (i : ℕ) (h : i < nodeCount g) (r : Row) (R : Reads g i
   abbrev p : ℕ
   p = rowPlace g i
 
-  node-read : nodeAt g i ≡ nodeOf (kindOf (getD g p 0)) (getD g (p + 1) 0) (getD g (p + 2) 0) (getD g (p + 3) 0) (getD g (p + 4) 0) (getD g (p + 5) 0) (getD g (p + 6) 0)
+  pub node-read : nodeAt g i ≡ nodeOf (kindOf (getD g p 0)) (getD g (p + 1) 0) (getD g (p + 2) 0) (getD g (p + 3) 0) (getD g (p + 4) 0) (getD g (p + 5) 0) (getD g (p + 6) 0)
   unfolding nodeAt rowAt
   node-read = rw (lt-ltb i (nodeCount g) h)
 

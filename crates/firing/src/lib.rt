@@ -61,7 +61,7 @@ fn room_on(state: &[u32], present: bool, wire: usize) -> bool
     false
 }
 
-fn record_at(state: &[u32], wires: usize, i: usize) -> step::Record
+pub fn record_at(state: &[u32], wires: usize, i: usize) -> step::Record
     requires { ⌜ 2 * wires + 4 * i + 3 < length (now state) ⌝ }
     ensures record { λ r. ⌜ r ≡ recordAt wires (now (state .entry)) i ⌝ }
 {
