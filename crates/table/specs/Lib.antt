@@ -1,0 +1,5 @@
+-- Loop tables: rows, the scan, the refusals 1 to 9, and the cases that compute.
+pub mod Rows
+pub mod Scan
+pub mod Check
+pub mod Cases
