@@ -2,4 +2,5 @@
 pub mod Rows
 pub mod Scan
 pub mod Check
+pub mod Kept
 pub mod Cases

@@ -1,1 +1,241 @@
-// x
+// The check of a loop table's rows: refusals 1 to 9 of the paper, with the row that tells the fitter what to mend.
+// `check_rows` is the entry. The stack of open loops is eight entries of three words (first row, ARGs, NEXTs), by value.
+ghost use mathlib.Core.Path.{_≡_};
+ghost use Prim.Native.Nat.{ℕ, _+_, _-_, _*_, _/_, _%_, _<_, _≤_};
+ghost use mathlib.Core.List.{[]};
+ghost use lib.ListN.{length, getD, set, replicate};
+ghost use Rattle.table.specs.Rows.{kindOf, word, size, usedWords, operandCount, firstOperand, sortOf, wantedSort};
+ghost use Rattle.table.specs.Scan.{after, inner, homeBy, holds, bodyOpen, visible, stackAt};
+ghost use Rattle.table.specs.Check.{lengthRight, kindRight, spareRight, codeRight, kindBefore, follows, argLeft, allServed, stands, placeRight, depthRight, namesRight, typesRight, endRight, rowRefusal, rowsFrom, tableRefusal};
+ghost use Rattle.table.specs.Kept.{openLoops, Noted};
+
+fn used_words(kind: u32) -> u32
+    ensures { λ r. ⌜ (r ≡ usedWords kind) × (r ≤ 5) ⌝ }
+{
+    match kind {
+        0 => 0,
+        7 => 0,
+        2 => 3,
+        3 => 3,
+        4 => 5,
+        _ => 1,
+    }
+}
+
+fn operand_count(kind: u32) -> u32
+    ensures { λ r. ⌜ (r ≡ operandCount kind) × (r ≤ 3) ⌝ }
+{
+    match kind {
+        2 => 2,
+        3 => 3,
+        4 => 3,
+        5 => 1,
+        6 => 1,
+        8 => 1,
+        _ => 0,
+    }
+}
+
+fn first_operand(kind: u32) -> u32
+    ensures { λ r. ⌜ (r ≡ firstOperand kind) × (1 ≤ r) × (r ≤ 2) ⌝ }
+{
+    if kind == 2 { 2 } else { 1 }
+}
+
+fn wanted_sort(kind: u32, k: u32) -> u32
+    ensures { λ r. ⌜ r ≡ wantedSort kind k ⌝ }
+{
+    if kind == 3 {
+        if k == 1 {
+            return 1;
+        }
+    }
+    0
+}
+
+fn kind_at(table: &[u32], r: u32) -> u32
+    requires { ⌜ (r < size (now table)) × (r < 512) ⌝ }
+    ensures { λ k. ⌜ k ≡ kindOf (now (table .entry)) r ⌝ }
+{
+    table[(6 * r) as usize]
+}
+
+fn word_at(table: &[u32], r: u32, k: u32) -> u32
+    requires { ⌜ (r < size (now table)) × (r < 512) × (k < 6) ⌝ }
+    ensures { λ w. ⌜ w ≡ word (now (table .entry)) r k ⌝ }
+{
+    table[(6 * r + k) as usize]
+}
+
+fn sort_of(table: &[u32], n: u32, v: u32) -> u32
+    requires { ⌜ (length (now table) ≡ 6 * n) × (n ≤ 512) ⌝ }
+    ensures { λ s. ⌜ s ≡ sortOf (now (table .entry)) v ⌝ }
+{
+    if v < n {
+        if kind_at(table, v) == 2 {
+            if word_at(table, v, 1) >= 3 {
+                return 1;
+            }
+        }
+    }
+    0
+}
+
+fn row_follows(before: u32, kind: u32) -> bool
+    ensures { λ r. ⌜ r ≡ follows before kind ⌝ }
+{
+    if before == 8 {
+        return kind == 8;
+    }
+    if before == 6 {
+        if kind == 6 {
+            return true;
+        }
+        return kind == 7;
+    }
+    if kind <= 1 {
+        return before <= 1;
+    }
+    if kind == 5 {
+        if before == 4 {
+            return true;
+        }
+        return before == 5;
+    }
+    true
+}
+
+fn kind_before(table: &[u32], r: u32) -> u32
+    requires { ⌜ (r ≤ size (now table)) × (r ≤ 512) ⌝ }
+    ensures { λ k. ⌜ k ≡ kindBefore (now (table .entry)) r ⌝ }
+{
+    if r == 0 {
+        return 0;
+    }
+    kind_at(table, r - 1)
+}
+
+fn spare_right(table: &[u32], r: u32) -> bool
+    requires { ⌜ (r < size (now table)) × (r < 512) ⌝ }
+    ensures { λ b. ⌜ b ≡ spareRight (now (table .entry)) r ⌝ }
+{
+    let mut k = used_words(kind_at(table, r)) + 1;
+    while k < 6 {
+        if word_at(table, r, k) != 0 {
+            return false;
+        }
+        k += 1;
+    }
+    true
+}
+
+fn code_right(table: &[u32], r: u32) -> bool
+    requires { ⌜ (r < size (now table)) × (r < 512) ⌝ }
+    ensures { λ b. ⌜ b ≡ codeRight (now (table .entry)) r ⌝ }
+{
+    let kind = kind_at(table, r);
+    if kind == 2 {
+        return word_at(table, r, 1) <= 7;
+    }
+    if kind == 4 {
+        if word_at(table, r, 4) <= 5 {
+            return word_at(table, r, 5) <= 4;
+        }
+        return false;
+    }
+    true
+}
+
+// Number j of entry d: 0 its first row, 1 its ARGs, 2 its NEXTs.
+fn entry(stack: [[u32; 3]; 8], d: usize, j: usize) -> u32
+    requires { ⌜ (d < 8) × (j < 3) ⌝ }
+    ensures { λ r. ⌜ r ≡ getD (getD stack d []) j 0 ⌝ }
+{
+    stack[d][j]
+}
+
+// The innermost body of n rows with d loops open.
+fn inner_body(n: u32, stack: [[u32; 3]; 8], d: usize) -> u32
+    requires { ⌜ d ≤ 8 ⌝ }
+    ensures { λ b. ⌜ b ≡ inner n (openLoops stack d) ⌝ }
+{
+    if d == 0 {
+        return n;
+    }
+    entry(stack, d - 1, 0)
+}
+
+fn depth_outward(d: usize) -> usize
+    ensures { λ e. ⌜ e ≡ d - 1 ⌝ }
+{
+    if d == 0 {
+        return 0;
+    }
+    d - 1
+}
+
+fn home_body(n: u32, kind: u32, r: u32, stack: [[u32; 3]; 8], d: usize) -> u32
+    requires { ⌜ d ≤ 8 ⌝ }
+    ensures { λ b. ⌜ b ≡ homeBy n kind r (openLoops stack d) ⌝ }
+{
+    if kind <= 1 {
+        return n;
+    }
+    if kind == 4 {
+        return r;
+    }
+    if kind == 6 {
+        return inner_body(n, stack, depth_outward(d));
+    }
+    inner_body(n, stack, d)
+}
+
+fn is_open(b: u32, stack: [[u32; 3]; 8], d: usize) -> bool
+    requires { ⌜ d ≤ 8 ⌝ }
+    ensures { λ r. ⌜ r ≡ holds b (openLoops stack d) ⌝ }
+{
+    let mut k = d;
+    while k > 0 {
+        if entry(stack, k - 1, 0) == b {
+            return true;
+        }
+        k -= 1;
+    }
+    false
+}
+
+fn arg_left(stack: [[u32; 3]; 8], d: usize) -> bool
+    requires { ⌜ d ≤ 8 ⌝ }
+    ensures { λ r. ⌜ r ≡ argLeft (openLoops stack d) ⌝ }
+{
+    if d == 0 {
+        return false;
+    }
+    entry(stack, d - 1, 2) < entry(stack, d - 1, 1)
+}
+
+fn all_served(stack: [[u32; 3]; 8], d: usize) -> bool
+    requires { ⌜ d ≤ 8 ⌝ }
+    ensures { λ r. ⌜ r ≡ allServed (openLoops stack d) ⌝ }
+{
+    if d == 0 {
+        return false;
+    }
+    entry(stack, d - 1, 2) == entry(stack, d - 1, 1)
+}
+
+fn row_stands(kind: u32, stack: [[u32; 3]; 8], d: usize) -> bool
+    requires { ⌜ d ≤ 8 ⌝ }
+    ensures { λ r. ⌜ r ≡ stands kind (openLoops stack d) ⌝ }
+{
+    if kind == 6 {
+        return arg_left(stack, d);
+    }
+    if kind == 7 {
+        return all_served(stack, d);
+    }
+    if kind == 8 {
+        return d == 0;
+    }
+    true
+}
