@@ -2,6 +2,8 @@
 // `check_rows` is the entry. The stack of open loops is eight entries of three words (first row, ARGs, NEXTs), by value.
 ghost use mathlib.Core.Path.{_≡_};
 ghost use Prim.Native.Nat.{ℕ, _+_, _-_, _*_, _/_, _%_, _<_, _≤_};
+ghost use mathlib.Core.Bool.{true, cond};
+ghost use lib.Dec.{eqb};
 ghost use mathlib.Core.List.{[]};
 ghost use lib.ListN.{length, getD, set, replicate};
 ghost use Rattle.table.specs.Rows.{kindOf, word, size, usedWords, operandCount, firstOperand, sortOf, wantedSort};
@@ -236,6 +238,122 @@ fn row_stands(kind: u32, stack: [[u32; 3]; 8], d: usize) -> bool
     }
     if kind == 8 {
         return d == 0;
+    }
+    true
+}
+
+fn place_right(table: &[u32], stack: [[u32; 3]; 8], d: usize, r: u32) -> bool
+    requires { ⌜ (r < size (now table)) × (r < 512) × (d ≤ 8) × (openLoops stack d ≡ stackAt (now table) r) ⌝ }
+    ensures { λ b. ⌜ b ≡ placeRight (now (table .entry)) r ⌝ }
+{
+    let kind = kind_at(table, r);
+    if row_follows(kind_before(table, r), kind) {
+        return row_stands(kind, stack, d);
+    }
+    false
+}
+
+fn depth_right(table: &[u32], d: usize, r: u32) -> bool
+    requires { ⌜ (r < size (now table)) × (r < 512) × (length (stackAt (now table) r) ≡ d) ⌝ }
+    ensures { λ b. ⌜ b ≡ depthRight (now (table .entry)) r ⌝ }
+{
+    if kind_at(table, r) == 4 {
+        return d < 8;
+    }
+    true
+}
+
+fn body_open(n: u32, b: u32, stack: [[u32; 3]; 8], d: usize) -> bool
+    requires { ⌜ d ≤ 8 ⌝ }
+    ensures { λ r. ⌜ r ≡ bodyOpen n b (openLoops stack d) ⌝ }
+{
+    if b == n {
+        return true;
+    }
+    is_open(b, stack, d)
+}
+
+// How many of d open loops are open where the operands of a row of this kind are read.
+fn read_depth(kind: u32, d: usize) -> usize
+    ensures { λ e. ⌜ (e ≡ cond (eqb kind 5) (d - 1) d) × (e ≤ d) ⌝ }
+{
+    if kind == 5 {
+        return depth_outward(d);
+    }
+    d
+}
+
+fn is_visible(
+    table: &[u32],
+    homes: &[u32; 512],
+    bodies: &[u32; 512],
+    stack: [[u32; 3]; 8],
+    d: usize,
+    n: u32,
+    r: u32,
+    v: u32,
+) -> bool
+    requires { ⌜ (r < n) × (n ≡ size (now table)) × Noted (now table) r (now homes) (now bodies) stack d ⌝ }
+    ensures { λ b. ⌜ b ≡ visible (now (table .entry)) r v ⌝ }
+{
+    if v >= r {
+        return false;
+    }
+    let kind = kind_at(table, v);
+    if kind > 6 {
+        return false;
+    }
+    if body_open(
+        n,
+        homes[v as usize],
+        stack,
+        read_depth(kind_at(table, r), d),
+    ) {
+        if kind == 6 {
+            return !is_open(bodies[v as usize], stack, d);
+        }
+        return true;
+    }
+    false
+}
+
+fn names_right(
+    table: &[u32],
+    homes: &[u32; 512],
+    bodies: &[u32; 512],
+    stack: [[u32; 3]; 8],
+    d: usize,
+    n: u32,
+    r: u32,
+) -> bool
+    requires { ⌜ (r < n) × (n ≡ size (now table)) × Noted (now table) r (now homes) (now bodies) stack d ⌝ }
+    ensures { λ b. ⌜ b ≡ namesRight (now (table .entry)) r ⌝ }
+{
+    let kind = kind_at(table, r);
+    let mut k = first_operand(kind);
+    let end = k + operand_count(kind);
+    while k < end {
+        if is_visible(table, homes, bodies, stack, d, n, r, word_at(table, r, k)) {
+            k += 1;
+        } else {
+            return false;
+        }
+    }
+    true
+}
+
+fn types_right(table: &[u32], n: u32, r: u32) -> bool
+    requires { ⌜ (r < n) × (n ≤ 512) × (length (now table) ≡ 6 * n) ⌝ }
+    ensures { λ b. ⌜ b ≡ typesRight (now (table .entry)) r ⌝ }
+{
+    let kind = kind_at(table, r);
+    let mut k = first_operand(kind);
+    let end = k + operand_count(kind);
+    while k < end {
+        if sort_of(table, n, word_at(table, r, k)) != wanted_sort(kind, k) {
+            return false;
+        }
+        k += 1;
     }
     true
 }
