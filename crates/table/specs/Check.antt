@@ -138,14 +138,14 @@ pub record Refusal : Type 0 where
   pub number : ℕ
   pub row : ℕ
 
-abbrev pub refused : ℕ → ℕ → Refusal
-refused k r = record { number = k; row = r }
+abbrev pub answer : ℕ → ℕ → Refusal
+answer k r = record { number = k; row = r }
 
 -- so many rows from row r up; 'then 9', with the row count; 'a check that succeeds answers 0'
 unfoldable pub rowsFrom : ℕ → List ℕ → ℕ → Refusal
-rowsFrom zero t r = cond (endRight t) (refused 0 0) (refused OPEN r)
-rowsFrom (suc m) t r = cond (eqb (rowRefusal t r) 0) (rowsFrom m t (r + 1)) (refused (rowRefusal t r) r)
+rowsFrom zero t r = cond (endRight t) (answer 0 0) (answer OPEN r)
+rowsFrom (suc m) t r = cond (eqb (rowRefusal t r) 0) (rowsFrom m t (r + 1)) (answer (rowRefusal t r) r)
 
 -- '1 first'
 unfoldable pub tableRefusal : List ℕ → Refusal
-tableRefusal t = cond (lengthRight t) (rowsFrom (size t) t 0) (refused LENGTH 0)
+tableRefusal t = cond (lengthRight t) (rowsFrom (size t) t 0) (answer LENGTH 0)

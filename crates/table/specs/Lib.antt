@@ -3,4 +3,5 @@ pub mod Rows
 pub mod Scan
 pub mod Check
 pub mod Kept
+pub mod Right
 pub mod Cases

@@ -4,12 +4,12 @@ ghost use mathlib.Core.Path.{_≡_};
 ghost use Prim.Native.Nat.{ℕ, _+_, _-_, _*_, _/_, _%_, _<_, _≤_};
 ghost use mathlib.Core.Bool.{true, cond};
 ghost use lib.Dec.{eqb};
-ghost use mathlib.Core.List.{[]};
+ghost use mathlib.Core.List.{[], _∷_};
 ghost use lib.ListN.{length, getD, set, replicate};
 ghost use Rattle.table.specs.Rows.{kindOf, word, size, usedWords, operandCount, firstOperand, sortOf, wantedSort};
 ghost use Rattle.table.specs.Scan.{after, inner, homeBy, holds, bodyOpen, visible, stackAt};
-ghost use Rattle.table.specs.Check.{lengthRight, kindRight, spareRight, codeRight, kindBefore, follows, argLeft, allServed, stands, placeRight, depthRight, namesRight, typesRight, endRight, rowRefusal, rowsFrom, tableRefusal};
-ghost use Rattle.table.specs.Kept.{openLoops, Noted};
+ghost use Rattle.table.specs.Check.{lengthRight, kindRight, spareRight, codeRight, kindBefore, follows, argLeft, allServed, outside, stands, placeRight, depthRight, namesRight, typesRight, endRight, rowRefusal, answer, rowsFrom, tableRefusal};
+ghost use Rattle.table.specs.Kept.{entryOf, openLoops, depthAfter, Counted, Noted};
 
 fn used_words(kind: u32) -> u32
     ensures { λ r. ⌜ (r ≡ usedWords kind) × (r ≤ 5) ⌝ }
@@ -356,4 +356,157 @@ fn types_right(table: &[u32], n: u32, r: u32) -> bool
         k += 1;
     }
     true
+}
+
+fn row_refusal(
+    table: &[u32],
+    homes: &[u32; 512],
+    bodies: &[u32; 512],
+    stack: [[u32; 3]; 8],
+    d: usize,
+    n: u32,
+    r: u32,
+) -> u32
+    requires { ⌜ (r < n) × (length (now table) ≡ 6 * n) × Noted (now table) r (now homes) (now bodies) stack d ⌝ }
+    ensures { λ k. ⌜ k ≡ rowRefusal (now (table .entry)) r ⌝ }
+{
+    if kind_at(table, r) > 8 {
+        return 2;
+    }
+    if spare_right(table, r) {} else {
+        return 3;
+    }
+    if code_right(table, r) {} else {
+        return 4;
+    }
+    if place_right(table, stack, d, r) {} else {
+        return 5;
+    }
+    if depth_right(table, d, r) {} else {
+        return 6;
+    }
+    if names_right(table, homes, bodies, stack, d, n, r) {} else {
+        return 7;
+    }
+    if types_right(table, n, r) {} else {
+        return 8;
+    }
+    0
+}
+
+// Entry d filled.
+fn with_entry(stack: [[u32; 3]; 8], d: usize, row: u32, args: u32, nexts: u32) -> [[u32; 3]; 8]
+    requires { ⌜ d < 8 ⌝ }
+    ensures { λ s. ⌜ openLoops s (d + 1) ≡ entryOf row args nexts ∷ openLoops stack d ⌝ }
+{
+    let mut s = stack;
+    s[d] = [row, args, nexts];
+    s
+}
+
+fn depth_after(kind: u32, d: usize) -> usize
+    requires { ⌜ (d ≤ 8) × (kind ≡ 4 → d < 8) ⌝ }
+    ensures { λ e. ⌜ (e ≡ depthAfter kind d) × (e ≤ 8) ⌝ }
+{
+    if kind == 4 {
+        return d + 1;
+    }
+    if kind == 7 {
+        return depth_outward(d);
+    }
+    d
+}
+
+// The stack behind row r, from the stack before it.
+fn stack_after(kind: u32, r: u32, stack: [[u32; 3]; 8], d: usize) -> [[u32; 3]; 8]
+    requires { ⌜ (d ≤ 8) × (kind ≡ 4 → d < 8) × Counted 512 (openLoops stack d) ⌝ }
+    ensures { λ s. ⌜ openLoops s (depthAfter kind d) ≡ after kind r (openLoops stack d) ⌝ }
+{
+    if kind == 4 {
+        return with_entry(stack, d, r, 0, 0);
+    }
+    if d == 0 {
+        return stack;
+    }
+    let e = d - 1;
+    if kind == 5 {
+        return with_entry(
+            stack,
+            e,
+            entry(stack, e, 0),
+            entry(stack, e, 1) + 1,
+            entry(stack, e, 2),
+        );
+    }
+    if kind == 6 {
+        return with_entry(
+            stack,
+            e,
+            entry(stack, e, 0),
+            entry(stack, e, 1),
+            entry(stack, e, 2) + 1,
+        );
+    }
+    stack
+}
+
+fn end_right(table: &[u32], d: usize, n: u32) -> bool
+    requires { ⌜ (n ≡ size (now table)) × (n ≤ 512) × (outside (stackAt (now table) n) ≡ eqb d 0) ⌝ }
+    ensures { λ b. ⌜ b ≡ endRight (now (table .entry)) ⌝ }
+{
+    if d == 0 {
+        return kind_before(table, n) == 8;
+    }
+    false
+}
+
+// What a check answers: a refusal's number and row, or 0 and 0.
+pub struct Checked {
+    pub number: u32,
+    pub row: u32,
+}
+
+fn rows_checked(table: &[u32], n: u32) -> Checked
+    requires { ⌜ (length (now table) ≡ 6 * n) × (n ≤ 512) ⌝ }
+    ensures { λ r. ⌜ answer (r .number) (r .row) ≡ rowsFrom n (now (table .entry)) 0 ⌝ }
+{
+    let mut homes = [0u32; 512];
+    let mut bodies = [0u32; 512];
+    let mut stack = [[0u32; 3]; 8];
+    let mut d: usize = 0;
+    let mut i: u32 = 0;
+    while i < n {
+        let number = row_refusal(table, &homes, &bodies, stack, d, n, i);
+        if number != 0 {
+            return Checked { number, row: i };
+        }
+        let kind = kind_at(table, i);
+        homes[i as usize] = home_body(n, kind, i, stack, d);
+        bodies[i as usize] = inner_body(n, stack, d);
+        let next = stack_after(kind, i, stack, d);
+        stack = next;
+        d = depth_after(kind, d);
+        i += 1;
+    }
+    if end_right(table, d, n) {
+        return Checked { number: 0, row: 0 };
+    }
+    Checked { number: 9, row: n }
+}
+
+// The check of a table's rows: refusals 1 to 9.
+pub fn check_rows(table: &[u32]) -> Checked
+    ensures { λ r. ⌜ answer (r .number) (r .row) ≡ tableRefusal (now (table .entry)) ⌝ }
+{
+    let n = table.len() / 6;
+    if table.len() % 6 != 0 {
+        return Checked { number: 1, row: 0 };
+    }
+    if n < 1 {
+        return Checked { number: 1, row: 0 };
+    }
+    if n > 512 {
+        return Checked { number: 1, row: 0 };
+    }
+    rows_checked(table, n as u32)
 }
