@@ -1,6 +1,7 @@
 -- Loop tables: rows, the scan, the refusals 1 to 9, and the cases that compute.
 pub mod Rows
 pub mod Scan
+pub mod Bodies
 pub mod Check
 pub mod Kept
 pub mod Right
