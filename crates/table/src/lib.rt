@@ -277,10 +277,10 @@ fn body_open(n: u32, b: u32, stack: [[u32; 3]; 8], d: usize) -> bool
 fn read_depth(kind: u32, d: usize) -> usize
     ensures { λ e. ⌜ (e ≡ cond (eqb kind 5) (d - 1) d) × (e ≤ d) ⌝ }
 {
-    if kind == 5 {
-        return depth_outward(d);
+    if kind != 5 {
+        return d;
     }
-    d
+    depth_outward(d)
 }
 
 fn is_visible(
