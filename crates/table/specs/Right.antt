@@ -8,7 +8,7 @@ use mathlib.Core.Path.{_≡_, refl, sym, ap, _∙_, subst}
 use mathlib.Core.Logic.{⊎-elim}
 use native.Mathlib.Omega.{arith}
 use native.Mathlib.Nat.{eq-or-lt-of-le}
-use borrow.Author.Tests.{eqb-true}
+use borrow.Author.Tests.{ne-eqb}
 use lib.Dec.{eqb}
 use Rattle.table.specs.Rows.{size}
 use Rattle.table.specs.Check.{lengthRight, kindRight, spareRight, codeRight, placeRight, depthRight, namesRight, typesRight, endRight, orElse, rowRefusal, Refusal, answer, rowsFrom, tableRefusal}
@@ -52,4 +52,34 @@ passing-row-is-right t r e =
       depth = p6 .0;
       names = p7 .0;
       types = p8 .0;
+    }
+
+-- a test that leads to no refusal holds
+held : (b : Bool) (x : Refusal) (k r : ℕ) → cond b x (answer (suc k) r) ≡ answer 0 0 → (b ≡ true) × (x ≡ answer 0 0)
+held true x k r e = (refl, e)
+held false x k r e = let z : suc k ≡ 0 = ap (λ (a : Refusal). a .number) e in absurd (omega arith)
+
+row-held : (k r : ℕ) (x : Refusal) → cond (eqb k 0) x (answer k r) ≡ answer 0 0 → (k ≡ 0) × (x ≡ answer 0 0)
+row-held zero r x e = (refl, e)
+row-held (suc k) r x e =
+    let z : suc k ≡ 0 = ap (λ (a : Refusal). a .number) (simp (ne-eqb (suc k) 0 (λ q. omega arith)) at e) in absurd (omega arith)
+
+rows-held : (t : List ℕ) (m r : ℕ) → rowsFrom m t r ≡ answer 0 0 → ((k : ℕ) → r ≤ k → k < r + m → rowRefusal t k ≡ 0) × (endRight t ≡ true)
+unfolding rowsFrom
+rows-held t zero r e = (λ k l h. absurd (omega arith), held (endRight t) (answer 0 0) 8 r e .0)
+rows-held t (suc m) r e =
+    let p = row-held (rowRefusal t r) r (rowsFrom m t (r + 1)) e in
+    let q = rows-held t m (r + 1) (p .1) in
+    (λ k l h. ⊎-elim (λ (z : r ≡ k). rw (← z) (p .0)) (λ (z : r < k). q .0 k (omega arith) (omega arith)) (eq-or-lt-of-le l), q .1)
+
+-- a table that the check lets pass has passed every test
+pub passing-table-is-right : (t : List ℕ) → tableRefusal t ≡ answer 0 0 → TableRight t
+unfolding tableRefusal
+passing-table-is-right t e =
+    let p = held (lengthRight t) (rowsFrom (size t) t 0) 0 0 e in
+    let q = rows-held t (size t) 0 (p .1) in
+    record {
+      long = p .0;
+      row = λ r h. passing-row-is-right t r (q .0 r (omega arith) (omega arith));
+      ended = q .1;
     }

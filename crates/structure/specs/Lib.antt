@@ -1,0 +1,3 @@
+-- The structure of a table that passes refusals 1 to 9.
+pub mod Place
+pub mod Loops
