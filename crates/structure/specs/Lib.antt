@@ -1,3 +1,5 @@
 -- The structure of a table that passes refusals 1 to 9.
 pub mod Place
 pub mod Loops
+pub mod Spans
+pub mod Serving
