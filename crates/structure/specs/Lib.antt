@@ -3,3 +3,4 @@ pub mod Place
 pub mod Loops
 pub mod Spans
 pub mod Serving
+pub mod Operands

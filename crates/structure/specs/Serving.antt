@@ -62,6 +62,17 @@ module _ (t : List ℕ) where
       let IH = header-stack L j k (λ a p q. all a p (omega arith)) in
       rw e (stack-arg t (suc L + j) (all (suc L + j) (omega arith) (omega arith)) ∙ ap (atHead oneArg) IH ∙ ap (λ (n : ℕ). entryOf L n 0 ∷ stackAt t L) one)
 
+  -- the rows between a FOR and the first row of its body are ARGs of that loop
+  pub header-rows : (L x : ℕ) → L < x → x < firstOf t L → kindOf t x ≡ 5
+  unfolding firstOf argsOf
+  header-rows L x p q = args-are (size t - suc L) (suc L) x p q
+
+  pub header-bodies : (L x : ℕ) → kindOf t L ≡ 4 → L < x → x < firstOf t L → bodyOf t x ≡ L
+  header-bodies L x k p q =
+      let e : suc L + (x - suc L) ≡ x = omega arith in
+      let st = header-stack L (x - suc L) k (λ a g h. header-rows L a g (omega arith)) in
+      body-is t x (entryOf L (x - suc L) 0) (stackAt t L) (subst (λ (y : ℕ). stackAt t y ≡ entryOf L (x - suc L) 0 ∷ stackAt t L) e st)
+
 -- an ARG row, in its loop
 pub record ArgRow (t : List ℕ) (a : ℕ) : Type 0 where
   pub loop-for : kindOf t (bodyOf t a) ≡ 4
@@ -75,6 +86,7 @@ pub record ArgRow (t : List ℕ) (a : ℕ) : Type 0 where
 -- a NEXT row, in its loop
 pub record NextRow (t : List ℕ) (x : ℕ) : Type 0 where
   pub loop-for : kindOf t (bodyOf t x) ≡ 4
+  pub below : bodyOf t x < x
   pub low : firstOf t (bodyOf t x) ≤ x
   pub high : x < endOf t (bodyOf t x)
   pub arg-kind : kindOf t (argOf t x) ≡ 5
@@ -234,6 +246,7 @@ module _ (t : List ℕ) (ok : TableRight t) where
       let bA : bodyOf t (suc L + k) ≡ L = body-is t (suc L + k) (entryOf L k 0) (stackAt t L) sA in
       record {
         loop-for = kL;
+        below = omega (arith, h .nexts-in);
         low = omega (arith, h .nexts-in, cnt);
         high = omega (arith, E);
         arg-kind = rw nx kA;
