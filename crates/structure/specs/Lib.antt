@@ -4,3 +4,5 @@ pub mod Loops
 pub mod Spans
 pub mod Serving
 pub mod Operands
+pub mod Order
+pub mod Structure
