@@ -11,15 +11,53 @@ ghost use Rattle.table.specs.Scan.{after, inner, homeBy, holds, bodyOpen
 ghost use Rattle.table.specs.Check.{lengthRight, kindRight, spareRight, codeRight, kindBefore, follows, argLeft, allServed, outside, stands, placeRight, depthRight, namesRight, typesRight, endRight, rowRefusal, answer, rowsFrom, tableRefusal};
 ghost use Rattle.table.specs.Kept.{entryOf, openLoops, depthAfter, Counted, Noted};
 
+// The kinds of rows.
+const INPUT: u32 = 0;
+
+const CONST: u32 = 1;
+
+const OP: u32 = 2;
+
+const PICK: u32 = 3;
+
+const FOR: u32 = 4;
+
+const ARG: u32 = 5;
+
+const NEXT: u32 = 6;
+
+const END: u32 = 7;
+
+const OUT: u32 = 8;
+
+// The refusals.
+const LENGTH: u32 = 1;
+
+const KIND: u32 = 2;
+
+const SPARE: u32 = 3;
+
+const CODE: u32 = 4;
+
+const PLACE: u32 = 5;
+
+const DEPTH: u32 = 6;
+
+const NAME: u32 = 7;
+
+const TYPE: u32 = 8;
+
+const OPEN: u32 = 9;
+
 fn used_words(kind: u32) -> u32
     ensures { λ r. ⌜ (r ≡ usedWords kind) × (r ≤ 5) ⌝ }
 {
     match kind {
-        0 => 0,
-        7 => 0,
-        2 => 3,
-        3 => 3,
-        4 => 5,
+        INPUT => 0,
+        END => 0,
+        OP => 3,
+        PICK => 3,
+        FOR => 5,
         _ => 1,
     }
 }
@@ -28,12 +66,12 @@ fn operand_count(kind: u32) -> u32
     ensures { λ r. ⌜ (r ≡ operandCount kind) × (r ≤ 3) ⌝ }
 {
     match kind {
-        2 => 2,
-        3 => 3,
-        4 => 3,
-        5 => 1,
-        6 => 1,
-        8 => 1,
+        OP => 2,
+        PICK => 3,
+        FOR => 3,
+        ARG => 1,
+        NEXT => 1,
+        OUT => 1,
         _ => 0,
     }
 }
@@ -41,13 +79,13 @@ fn operand_count(kind: u32) -> u32
 fn first_operand(kind: u32) -> u32
     ensures { λ r. ⌜ (r ≡ firstOperand kind) × (1 ≤ r) × (r ≤ 2) ⌝ }
 {
-    if kind == 2 { 2 } else { 1 }
+    if kind == OP { 2 } else { 1 }
 }
 
 fn wanted_sort(kind: u32, k: u32) -> u32
     ensures { λ r. ⌜ r ≡ wantedSort kind k ⌝ }
 {
-    if kind == 3 {
+    if kind == PICK {
         if k == 1 {
             return 1;
         }
@@ -74,7 +112,7 @@ fn sort_of(table: &[u32], n: u32, v: u32) -> u32
     ensures { λ s. ⌜ s ≡ sortOf (now (table .entry)) v ⌝ }
 {
     if v < n {
-        if kind_at(table, v) == 2 {
+        if kind_at(table, v) == OP {
             if word_at(table, v, 1) >= 3 {
                 return 1;
             }
@@ -86,23 +124,23 @@ fn sort_of(table: &[u32], n: u32, v: u32) -> u32
 fn row_follows(before: u32, kind: u32) -> bool
     ensures { λ r. ⌜ r ≡ follows before kind ⌝ }
 {
-    if before == 8 {
-        return kind == 8;
+    if before == OUT {
+        return kind == OUT;
     }
-    if before == 6 {
-        if kind == 6 {
+    if before == NEXT {
+        if kind == NEXT {
             return true;
         }
-        return kind == 7;
+        return kind == END;
     }
-    if kind <= 1 {
-        return before <= 1;
+    if kind <= CONST {
+        return before <= CONST;
     }
-    if kind == 5 {
-        if before == 4 {
+    if kind == ARG {
+        if before == FOR {
             return true;
         }
-        return before == 5;
+        return before == ARG;
     }
     true
 }
@@ -112,7 +150,7 @@ fn kind_before(table: &[u32], r: u32) -> u32
     ensures { λ k. ⌜ k ≡ kindBefore (now (table .entry)) r ⌝ }
 {
     if r == 0 {
-        return 0;
+        return INPUT;
     }
     kind_at(table, r - 1)
 }
@@ -136,10 +174,10 @@ fn code_right(table: &[u32], r: u32) -> bool
     ensures { λ b. ⌜ b ≡ codeRight (now (table .entry)) r ⌝ }
 {
     let kind = kind_at(table, r);
-    if kind == 2 {
+    if kind == OP {
         return word_at(table, r, 1) <= 7;
     }
-    if kind == 4 {
+    if kind == FOR {
         if word_at(table, r, 4) <= 5 {
             return word_at(table, r, 5) <= 4;
         }
@@ -180,13 +218,13 @@ fn home_body(n: u32, kind: u32, r: u32, stack: [[u32; 3]; 8], d: usize) -> u32
     requires { ⌜ d ≤ 8 ⌝ }
     ensures { λ b. ⌜ b ≡ homeBy n kind r (openLoops stack d) ⌝ }
 {
-    if kind <= 1 {
+    if kind <= CONST {
         return n;
     }
-    if kind == 4 {
+    if kind == FOR {
         return r;
     }
-    if kind == 6 {
+    if kind == NEXT {
         return inner_body(n, stack, depth_outward(d));
     }
     inner_body(n, stack, d)
@@ -230,13 +268,13 @@ fn row_stands(kind: u32, stack: [[u32; 3]; 8], d: usize) -> bool
     requires { ⌜ d ≤ 8 ⌝ }
     ensures { λ r. ⌜ r ≡ stands kind (openLoops stack d) ⌝ }
 {
-    if kind == 6 {
+    if kind == NEXT {
         return arg_left(stack, d);
     }
-    if kind == 7 {
+    if kind == END {
         return all_served(stack, d);
     }
-    if kind == 8 {
+    if kind == OUT {
         return d == 0;
     }
     true
@@ -257,7 +295,7 @@ fn depth_right(table: &[u32], d: usize, r: u32) -> bool
     requires { ⌜ (r < size (now table)) × (r < 512) × (length (stackAt (now table) r) ≡ d) ⌝ }
     ensures { λ b. ⌜ b ≡ depthRight (now (table .entry)) r ⌝ }
 {
-    if kind_at(table, r) == 4 {
+    if kind_at(table, r) == FOR {
         return d < 8;
     }
     true
@@ -277,7 +315,7 @@ fn body_open(n: u32, b: u32, stack: [[u32; 3]; 8], d: usize) -> bool
 fn read_depth(kind: u32, d: usize) -> usize
     ensures { λ e. ⌜ (e ≡ cond (eqb kind 5) (d - 1) d) × (e ≤ d) ⌝ }
 {
-    if kind != 5 {
+    if kind != ARG {
         return d;
     }
     depth_outward(d)
@@ -300,7 +338,7 @@ fn is_visible(
         return false;
     }
     let kind = kind_at(table, v);
-    if kind > 6 {
+    if kind > NEXT {
         return false;
     }
     if body_open(
@@ -309,7 +347,7 @@ fn is_visible(
         stack,
         read_depth(kind_at(table, r), d),
     ) {
-        if kind == 6 {
+        if kind == NEXT {
             return !is_open(bodies[v as usize], stack, d);
         }
         return true;
@@ -370,26 +408,26 @@ fn row_refusal(
     requires { ⌜ (r < n) × (length (now table) ≡ 6 * n) × Noted (now table) r (now homes) (now bodies) stack d ⌝ }
     ensures { λ k. ⌜ k ≡ rowRefusal (now (table .entry)) r ⌝ }
 {
-    if kind_at(table, r) > 8 {
-        return 2;
+    if kind_at(table, r) > OUT {
+        return KIND;
     }
     if spare_right(table, r) {} else {
-        return 3;
+        return SPARE;
     }
     if code_right(table, r) {} else {
-        return 4;
+        return CODE;
     }
     if place_right(table, stack, d, r) {} else {
-        return 5;
+        return PLACE;
     }
     if depth_right(table, d, r) {} else {
-        return 6;
+        return DEPTH;
     }
     if names_right(table, homes, bodies, stack, d, n, r) {} else {
-        return 7;
+        return NAME;
     }
     if types_right(table, n, r) {} else {
-        return 8;
+        return TYPE;
     }
     0
 }
@@ -408,10 +446,10 @@ fn depth_after(kind: u32, d: usize) -> usize
     requires { ⌜ (d ≤ 8) × (kind ≡ 4 → d < 8) ⌝ }
     ensures { λ e. ⌜ (e ≡ depthAfter kind d) × (e ≤ 8) ⌝ }
 {
-    if kind == 4 {
+    if kind == FOR {
         return d + 1;
     }
-    if kind == 7 {
+    if kind == END {
         return depth_outward(d);
     }
     d
@@ -422,14 +460,14 @@ fn stack_after(kind: u32, r: u32, stack: [[u32; 3]; 8], d: usize) -> [[u32; 3]; 
     requires { ⌜ (d ≤ 8) × (kind ≡ 4 → d < 8) × Counted 512 (openLoops stack d) ⌝ }
     ensures { λ s. ⌜ openLoops s (depthAfter kind d) ≡ after kind r (openLoops stack d) ⌝ }
 {
-    if kind == 4 {
+    if kind == FOR {
         return with_entry(stack, d, r, 0, 0);
     }
     if d == 0 {
         return stack;
     }
     let e = d - 1;
-    if kind == 5 {
+    if kind == ARG {
         return with_entry(
             stack,
             e,
@@ -438,7 +476,7 @@ fn stack_after(kind: u32, r: u32, stack: [[u32; 3]; 8], d: usize) -> [[u32; 3]; 
             entry(stack, e, 2),
         );
     }
-    if kind == 6 {
+    if kind == NEXT {
         return with_entry(
             stack,
             e,
@@ -455,7 +493,7 @@ fn end_right(table: &[u32], d: usize, n: u32) -> bool
     ensures { λ b. ⌜ b ≡ endRight (now (table .entry)) ⌝ }
 {
     if d == 0 {
-        return kind_before(table, n) == 8;
+        return kind_before(table, n) == OUT;
     }
     false
 }
@@ -491,7 +529,10 @@ fn rows_checked(table: &[u32], n: u32) -> Checked
     if end_right(table, d, n) {
         return Checked { number: 0, row: 0 };
     }
-    Checked { number: 9, row: n }
+    Checked {
+        number: OPEN,
+        row: n,
+    }
 }
 
 // The check of a table's rows: refusals 1 to 9.
@@ -500,13 +541,22 @@ pub fn check_rows(table: &[u32]) -> Checked
 {
     let n = table.len() / 6;
     if table.len() % 6 != 0 {
-        return Checked { number: 1, row: 0 };
+        return Checked {
+            number: LENGTH,
+            row: 0,
+        };
     }
     if n < 1 {
-        return Checked { number: 1, row: 0 };
+        return Checked {
+            number: LENGTH,
+            row: 0,
+        };
     }
     if n > 512 {
-        return Checked { number: 1, row: 0 };
+        return Checked {
+            number: LENGTH,
+            row: 0,
+        };
     }
     rows_checked(table, n as u32)
 }
