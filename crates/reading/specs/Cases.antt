@@ -1,5 +1,5 @@
 -- The register's tables read: P10, P11, the zero step, P12.
--- Main results: `p10-reads-10`, `p11-reads-0`, `zero-step-at-row-3`, `p12-reads-5`.
+-- Main results: `p10-reads-10`, `p11-reads-0`, `zero-step-at-row-3`, `p12-reads-5`, and one case for each clause of the sentence on turns.
 -- Assumes nothing.
 use Prim.Native.Nat.{ℕ, zero, suc, _+_}
 use mathlib.Core.Path.{_≡_, refl}
@@ -8,7 +8,7 @@ use mathlib.Core.List.{List, [], _∷_}
 use Rattle.word.specs.Words.{condition, update, operate}
 use Rattle.table.specs.Scan.{after, stackAt, bodyOf}
 use Rattle.table.specs.Bodies.{rowBy, rowAt, ends, endFrom, endOf, argsFrom, argsOf, firstOf, isArg, isNext, argOf, nextOf}
-use Rattle.table.specs.Cases.{sumTable, sumBy, p12Table}
+use Rattle.table.specs.Cases.{row6, input, const, op, loop, arg, next, close, out, sumTable, sumBy, p12Table}
 use Rattle.reading.specs.Reading.{opening, ended, zeroStep, inputsBelow, firstWords, begin, resultsFrom, turn, leave, step, readFrom, read}
 use Rattle.reading.specs.Outcome.{Reads}
 
@@ -36,3 +36,18 @@ zero-step-at-row-3 = record { steps = 30; comes = refl }
 pub p12-reads-5 : Reads p12Table [] (ended (5 ∷ []) (opening 3 3 ∷ opening 5 0 ∷ opening 5 1 ∷ opening 5 2 ∷ []))
 unfolding reading-computes
 p12-reads-5 = record { steps = 60; comes = refl }
+
+-- 'or the initials after no turn': the initial is 7
+pub no-turn-leaves-the-initial : Reads (input (const 7 (const 1 (loop 2 2 0 0 0 (arg 1 (op 0 4 3 (next 5 (close (out 6))))))))) (0 ∷ []) (ended (7 ∷ []) (opening 3 0 ∷ []))
+unfolding reading-computes
+no-turn-leaves-the-initial = record { steps = 30; comes = refl }
+
+-- 'the NEXTs become the ARGs together': two ARGs change places, three times
+pub args-change-together : Reads (const 0 (const 1 (const 3 (loop 0 1 2 0 0 (arg 0 (arg 1 (next 5 (next 4 (close (row6 8 6 0 0 0 0 (out 7))))))))))) [] (ended (1 ∷ 0 ∷ []) (opening 3 3 ∷ []))
+unfolding reading-computes
+args-change-together = record { steps = 60; comes = refl }
+
+-- 'the body runs, the NEXTs become the ARGs together, and the index is updated', in this order: a NEXT takes the index of its own turn
+pub next-takes-its-turns-index : Reads (const 0 (const 1 (const 3 (loop 0 1 2 0 0 (arg 0 (next 3 (close (out 5)))))))) [] (ended (2 ∷ []) (opening 3 3 ∷ []))
+unfolding reading-computes
+next-takes-its-turns-index = record { steps = 60; comes = refl }

@@ -5,4 +5,5 @@ pub mod Spans
 pub mod Serving
 pub mod Operands
 pub mod Order
+pub mod Paper
 pub mod Structure
