@@ -1,10 +1,9 @@
 -- The register's tables read: P10, P11, the zero step, P12.
 -- Main results: `p10-reads-10`, `p11-reads-0`, `zero-step-at-row-3`, `p12-reads-5`, and one case for each clause of the sentence on turns.
 -- Assumes nothing.
-use Prim.Native.Nat.{ℕ, zero, suc, _+_}
-use mathlib.Core.Path.{_≡_, refl}
-use mathlib.Core.Option.{Option, none, some}
-use mathlib.Core.List.{List, [], _∷_}
+use Prim.Native.Nat.{ℕ}
+use mathlib.Core.Path.{refl}
+use mathlib.Core.List.{[], _∷_}
 use Rattle.word.specs.Words.{condition, update, operate}
 use Rattle.table.specs.Scan.{after, stackAt, bodyOf}
 use Rattle.table.specs.Bodies.{rowBy, rowAt, ends, endFrom, endOf, argsFrom, argsOf, firstOf, isArg, isNext, argOf, nextOf}

@@ -2,8 +2,8 @@
 -- Main names: `Reads` (reading a table on some inputs comes to an outcome), `one-outcome`.
 -- Assumes nothing.
 use Prim.Native.Nat.{ℕ, zero, suc, _+_}
-use mathlib.Core.Option.{Option, none, some}
-use mathlib.Core.Path.{_≡_, refl, sym, ap, _∙_}
+use mathlib.Core.Option.{some}
+use mathlib.Core.Path.{_≡_}
 use mathlib.Core.List.{List}
 use native.Mathlib.Omega.{arith}
 use Rattle.reading.specs.Reading.{State, Outcome, Step, on, stop, step, begin, andThen, readFrom, read}
@@ -20,7 +20,8 @@ more-steps t zero m s o h = let z : _≡_ {A = ℕ} 0 1 = cc in absurd (omega ar
 more-steps t (suc k) m s o h =
     let e : suc k + m ≡ suc (k + m) = omega arith in rw e (go (λ s₁. more-steps t k m s₁ o) (step t s) h)
   where
-    go : ((s₁ : State) → readFrom k t s₁ ≡ some o → readFrom (k + m) t s₁ ≡ some o) → (x : Step) → andThen x (λ s₁. readFrom k t s₁) ≡ some o → andThen x (λ s₁. readFrom (k + m) t s₁) ≡ some o
+    go : ((s₁ : State) → readFrom k t s₁ ≡ some o → readFrom (k + m) t s₁ ≡ some o) → (x : Step) → andThen x (λ s₁. readFrom k t s₁) ≡ some o
+        → andThen x (λ s₁. readFrom (k + m) t s₁) ≡ some o
     go later (on s₁) h = later s₁ h
     go later (stop p) h = h
 

@@ -3,8 +3,8 @@
 -- In small steps over the row number and the words of the rows, with the openings so far beside them.
 -- Main names: `Env`, `State`, `begin`, `step`, `read`.
 -- Assumes nothing.
-use Prim.Native.Nat.{ℕ, zero, suc, _+_}
-use mathlib.Core.Bool.{Bool, true, false, cond}
+use Prim.Native.Nat.{ℕ, zero, suc}
+use mathlib.Core.Bool.{true, false, cond}
 use mathlib.Core.Option.{Option, none, some}
 use mathlib.Core.List.{List, [], _∷_, reverse}
 use lib.Dec.{eqb, ltb}

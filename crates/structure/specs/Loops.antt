@@ -4,20 +4,19 @@
 -- was known before the FOR that covered it.
 -- Assumes nothing.
 use Prim.Native.Nat.{ℕ, zero, suc, _+_, _<_, _≤_}
-use mathlib.Core.Bool.{Bool, true, false, false≢true}
+use mathlib.Core.Bool.{true}
 use mathlib.Core.List.{List, [], _∷_}
 use mathlib.Core.Logic.{_≢_, _⊎_, inl, inr}
 use mathlib.Core.Path.{_≡_, refl, sym, ap, _∙_, subst, subst₂}
 use native.Mathlib.Omega.{arith}
 use native.Mathlib.Decide.{ℕ-discrete}
-use borrow.Author.Tests.{eqb-true, ltb-true}
-use lib.Dec.{eqb, ltb}
+use borrow.Author.Tests.{ltb-true}
 use Rattle.table.specs.Rows.{kindOf, size}
 use Rattle.table.specs.Scan.{Loop, opened, oneArg, oneNext, atHead, outward, stackAt}
-use Rattle.table.specs.Check.{kindBefore, argLeft, allServed}
+use Rattle.table.specs.Check.{kindBefore, argLeft}
 use Rattle.table.specs.Kept.{entryOf}
 use Rattle.table.specs.Right.{RowRight, TableRight}
-use Rattle.structure.specs.Place.{behind-next, arg-behind, next-has-arg, end-is-served, Move, opens, counts, serves, closes, stays, move, stack-opens, stack-arg, stack-next, stack-closes, stack-stays}
+use Rattle.structure.specs.Place.{behind-next, arg-behind, next-has-arg, Move, opens, counts, serves, closes, stays, move, stack-opens, stack-arg, stack-next, stack-closes, stack-stays}
 
 -- the loops before row r are l and, around it, s
 pub record Head (t : List ℕ) (r : ℕ) (l : Loop) (s : List Loop) : Type 0 where

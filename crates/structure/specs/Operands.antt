@@ -1,24 +1,23 @@
 -- What an operand may name: an earlier value, at home in the body where it is read or around it, and of a NEXT one whose END has passed.
 -- Main names: `Operand`, `operand-of`, `ArgOperand`, `arg-operand-of`, and the homes: `home-start`, `home-op`, `home-for`, `home-arg`, `home-next`.
 -- Assumes nothing.
-use Prim.Native.Nat.{ℕ, zero, suc, _+_, _-_, _<_, _≤_}
-use mathlib.Core.Bool.{Bool, true, false, cond, not, _&&_, false≢true}
+use Prim.Native.Nat.{ℕ, zero, suc, _+_, _<_, _≤_}
+use mathlib.Core.Bool.{Bool, true, false, cond, _&&_}
 use mathlib.Core.List.{List, [], _∷_}
 use mathlib.Core.Logic.{_≢_, _⊎_, inl, inr}
 use mathlib.Core.Path.{_≡_, refl, sym, ap, _∙_, subst}
 use native.Mathlib.Omega.{arith}
 use native.Mathlib.Decide.{ℕ-discrete, decLe}
-use borrow.Author.Tests.{eqb-true, eq-eqb, ne-eqb, ltb-true, leb-true, le-leb, lt-leb, not-true as not-yes}
+use borrow.Author.Tests.{eqb-true, ne-eqb, ltb-true, leb-true, le-leb, lt-leb, not-true as not-yes}
 use lib.Dec.{eqb, leb, ltb}
 use Rattle.table.specs.Rows.{kindOf, word, size, operandCount, firstOperand, sortOf, wantedSort}
 use Rattle.table.specs.Scan.{Loop, stackAt, inner, outward, bodyOf, readStack, reads, homeBy, home, holds, bodyOpen, endPassed, visible}
 use Rattle.table.specs.Check.{namesFrom, namesRight, typesFrom, typesRight}
-use Rattle.table.specs.Kept.{entryOf}
 use Rattle.table.specs.Bodies.{operand, endOf, firstOf}
-use Rattle.table.specs.Right.{RowRight, TableRight}
+use Rattle.table.specs.Right.{TableRight}
 use Rattle.structure.specs.Place.{both}
-use Rattle.structure.specs.Spans.{not-true, clash, body-is, open-is-for, open-below, Span, span, Encloses, same, inside, outermost, open-encloses}
-use Rattle.structure.specs.Serving.{header-rows, header-bodies, ArgRow, arg-of, NextRow, next-of}
+use Rattle.structure.specs.Spans.{clash, open-is-for, span, Encloses, outermost, open-encloses}
+use Rattle.structure.specs.Serving.{header-rows, header-bodies, arg-of, next-of}
 
 module _ (t : List ℕ) where
   -- ---- homes
@@ -95,7 +94,8 @@ module _ (t : List ℕ) where
         passed = λ k. not-yes (holds (bodyOf t v) (stackAt t r)) (rw k at (p3 .1));
       }
     where
-      open-or : (b : Bool) → eqb (home t v) (size t) ≡ b → cond b true (holds (home t v) (readStack t r)) ≡ true → (home t v ≡ size t) ⊎ (holds (home t v) (readStack t r) ≡ true)
+      open-or : (b : Bool) → eqb (home t v) (size t) ≡ b → cond b true (holds (home t v) (readStack t r)) ≡ true
+          → (home t v ≡ size t) ⊎ (holds (home t v) (readStack t r) ≡ true)
       open-or true e q = inl (eqb-true (home t v) (size t) e)
       open-or false e q = inr q
 

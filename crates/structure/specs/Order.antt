@@ -1,20 +1,20 @@
 -- The order of kinds, the depth and the codes of a right table.
 -- Main names: `starts-first`, `outs-last`, `ends-with-out`, `start-outside`, `out-outside`, `at-most-eight-deep`, `op-code`, `for-codes`, `words-of-rows`.
 -- Assumes nothing.
-use Prim.Native.Nat.{ℕ, zero, suc, _+_, _*_, _/_, _%_, _<_, _≤_}
-use mathlib.Core.Bool.{Bool, true, false, _&&_, false≢true}
+use Prim.Native.Nat.{ℕ, zero, suc, _*_, _%_, _<_, _≤_}
+use mathlib.Core.Bool.{true, false, _&&_, false≢true}
 use mathlib.Core.List.{List, [], _∷_}
-use mathlib.Core.Logic.{_≢_, _⊎_, inl, inr}
-use mathlib.Core.Path.{_≡_, refl, sym, ap, _∙_, subst}
+use mathlib.Core.Logic.{_≢_}
+use mathlib.Core.Path.{_≡_, refl, sym, _∙_, subst}
 use native.Mathlib.Omega.{arith}
 use native.Mathlib.Decide.{ℕ-discrete}
 use borrow.Author.Tests.{eqb-true, ltb-true, leb-true}
-use lib.Dec.{eqb, leb, ltb}
+use lib.Dec.{eqb, leb}
 use lib.ListN.{length}
 use Rattle.table.specs.Rows.{kindOf, word, size}
-use Rattle.table.specs.Scan.{Loop, opened, oneArg, oneNext, atHead, outward, stackAt, bodyOf, inner}
+use Rattle.table.specs.Scan.{Loop, oneArg, oneNext, atHead, outward, stackAt}
 use Rattle.table.specs.Check.{lengthRight, kindRight, codeRight, depthRight, kindBefore, outside, endRight}
-use Rattle.table.specs.Right.{RowRight, TableRight}
+use Rattle.table.specs.Right.{TableRight}
 use Rattle.structure.specs.Place.{both, behind-out, start-behind, out-is-outside, Move, opens, counts, serves, closes, stays, move, stack-opens, stack-arg, stack-next, stack-closes, stack-stays}
 
 same-length : (f : Loop → Loop) (s : List Loop) → length (atHead f s) ≡ length s

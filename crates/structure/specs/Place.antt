@@ -2,17 +2,17 @@
 -- Main names: `behind-next`, `behind-out`, `arg-behind`, `start-behind`, `next-has-arg`, `end-is-served`, `out-is-outside`; `Move`, `move`,
 -- `stack-opens`, `stack-arg`, `stack-next`, `stack-closes`, `stack-stays`.
 -- Assumes nothing.
-use Prim.Native.Nat.{ℕ, zero, suc, _+_, _<_, _≤_}
+use Prim.Native.Nat.{ℕ, suc, _≤_}
 use mathlib.Core.Bool.{Bool, true, false, cond, _&&_, _||_, false≢true}
-use mathlib.Core.List.{List, [], _∷_}
+use mathlib.Core.List.{List, _∷_}
 use mathlib.Core.Logic.{_≢_, _⊎_, inl, inr}
-use mathlib.Core.Path.{_≡_, refl, sym, ap, _∙_, subst}
+use mathlib.Core.Path.{_≡_, refl}
 use native.Mathlib.Omega.{arith}
 use native.Mathlib.Decide.{ℕ-discrete}
-use borrow.Author.Tests.{eqb-true, leb-true, ltb-true, ne-eqb, le-leb}
-use lib.Dec.{eqb, leb, ltb}
+use borrow.Author.Tests.{eqb-true, leb-true, ne-eqb, le-leb}
+use lib.Dec.{eqb}
 use Rattle.table.specs.Rows.{kindOf}
-use Rattle.table.specs.Scan.{Loop, opened, oneArg, oneNext, atHead, outward, after, stackAt}
+use Rattle.table.specs.Scan.{opened, oneArg, oneNext, atHead, outward, after, stackAt}
 use Rattle.table.specs.Check.{kindBefore, follows, argLeft, allServed, outside, stands, placeRight}
 use Rattle.table.specs.Right.{RowRight}
 

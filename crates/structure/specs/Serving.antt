@@ -2,23 +2,23 @@
 -- Main names: `args-counted`, `header-stack`, `ArgOf`, `arg-of`, `next-of`.
 -- Assumes nothing.
 use Prim.Native.Nat.{ℕ, zero, suc, _+_, _-_, _<_, _≤_}
-use mathlib.Core.Bool.{Bool, true, false, cond, _&&_, false≢true}
+use mathlib.Core.Bool.{Bool, true, false, cond, false≢true}
 use mathlib.Core.List.{List, [], _∷_}
 use mathlib.Core.Logic.{_≢_, _⊎_, inl, inr}
 use mathlib.Core.Path.{_≡_, refl, sym, ap, _∙_, subst}
 use native.Mathlib.Omega.{arith}
-use native.Mathlib.Decide.{ℕ-discrete, decLe}
-use borrow.Author.Tests.{eqb-true, eq-eqb, ne-eqb, ltb-true}
+use native.Mathlib.Decide.{ℕ-discrete}
+use borrow.Author.Tests.{eqb-true, ne-eqb, ltb-true}
 use lib.Dec.{eqb}
 use Rattle.table.specs.Rows.{kindOf, size}
-use Rattle.table.specs.Scan.{Loop, opened, oneArg, oneNext, atHead, outward, stackAt, bodyOf, holds}
+use Rattle.table.specs.Scan.{Loop, opened, oneArg, oneNext, atHead, outward, stackAt, bodyOf}
 use Rattle.table.specs.Check.{kindBefore, argLeft, allServed}
 use Rattle.table.specs.Kept.{entryOf}
 use Rattle.table.specs.Bodies.{endOf, argsFrom, argsOf, firstOf, nextsIn, argOf, nextOf}
 use Rattle.table.specs.Right.{TableRight}
 use Rattle.structure.specs.Place.{behind-next, arg-behind, next-has-arg, end-is-served, stack-opens, stack-arg, stack-next}
 use Rattle.structure.specs.Loops.{Head, innermost}
-use Rattle.structure.specs.Spans.{member-here, nonempty, body-is, Span, span, end-is-endOf, end-stands}
+use Rattle.structure.specs.Spans.{member-here, nonempty, body-is, span, end-is-endOf}
 
 module _ (t : List ℕ) where
   -- so many ARGs and then another kind are counted as so many
@@ -46,7 +46,8 @@ module _ (t : List ℕ) where
   args-are zero r a p q = absurd (omega arith)
   args-are (suc m) r a p q = go (eqb (kindOf t r) 5) refl q (args-are m (suc r) a)
     where
-      go : (b : Bool) → eqb (kindOf t r) 5 ≡ b → a < r + cond b (suc (argsFrom m t (suc r))) 0 → (suc r ≤ a → a < suc r + argsFrom m t (suc r) → kindOf t a ≡ 5) → kindOf t a ≡ 5
+      go : (b : Bool) → eqb (kindOf t r) 5 ≡ b → a < r + cond b (suc (argsFrom m t (suc r))) 0
+          → (suc r ≤ a → a < suc r + argsFrom m t (suc r) → kindOf t a ≡ 5) → kindOf t a ≡ 5
       go true e q IH = elim (ℕ-discrete a r) [ yes y ↦ rw y (eqb-true (kindOf t r) 5 e) | no y ↦ IH (up y p) (omega arith) ]
         where
           up : a ≢ r → r ≤ a → suc r ≤ a
@@ -104,7 +105,8 @@ module _ (t : List ℕ) (ok : TableRight t) where
       go (inr e) = absurd (omega arith)
   header-open (suc b) less k = go (arg-behind t (suc b) (ok .row (suc b) less) k) (header-open b (omega arith))
     where
-      go : (kindOf t b ≡ 4) ⊎ (kindOf t b ≡ 5) → (kindOf t b ≡ 5 → (l : Loop) × (s : List Loop) × (stackAt t b ≡ l ∷ s)) → (l : Loop) × (s : List Loop) × (stackAt t (suc b) ≡ l ∷ s)
+      go : (kindOf t b ≡ 4) ⊎ (kindOf t b ≡ 5) → (kindOf t b ≡ 5 → (l : Loop) × (s : List Loop) × (stackAt t b ≡ l ∷ s))
+          → (l : Loop) × (s : List Loop) × (stackAt t (suc b) ≡ l ∷ s)
       go (inl e) IH = (opened b, stackAt t b, stack-opens t b e)
       go (inr e) IH = let q = IH e in (oneArg (q .0), q .1, stack-arg t b e ∙ ap (atHead oneArg) (q .2))
 
@@ -156,11 +158,13 @@ module _ (t : List ℕ) (ok : TableRight t) where
         all = λ w. rw e (by-all (suc (x + i)) nx (λ z. next-has-arg t (suc (x + i)) right z) st w);
       }
     where
-      by-more : (y : ℕ) → (kindOf t y ≡ 6) ⊎ (kindOf t y ≡ 7) → (kindOf t y ≡ 7 → allServed (stackAt t y) ≡ true) → stackAt t y ≡ entryOf L m (k + suc i) ∷ s → k + suc i < m → kindOf t y ≡ 6
+      by-more : (y : ℕ) → (kindOf t y ≡ 6) ⊎ (kindOf t y ≡ 7) → (kindOf t y ≡ 7 → allServed (stackAt t y) ≡ true) → stackAt t y ≡ entryOf L m (k + suc i) ∷ s
+          → k + suc i < m → kindOf t y ≡ 6
       by-more y (inl z) g st w = z
       by-more y (inr z) g st w = let u : k + suc i ≡ m = eqb-true (k + suc i) m (rw st at (g z)) in absurd (omega arith)
 
-      by-all : (y : ℕ) → (kindOf t y ≡ 6) ⊎ (kindOf t y ≡ 7) → (kindOf t y ≡ 6 → argLeft (stackAt t y) ≡ true) → stackAt t y ≡ entryOf L m (k + suc i) ∷ s → k + suc i ≡ m → kindOf t y ≡ 7
+      by-all : (y : ℕ) → (kindOf t y ≡ 6) ⊎ (kindOf t y ≡ 7) → (kindOf t y ≡ 6 → argLeft (stackAt t y) ≡ true) → stackAt t y ≡ entryOf L m (k + suc i) ∷ s
+          → k + suc i ≡ m → kindOf t y ≡ 7
       by-all y (inl z) g st w = let u : k + suc i < m = ltb-true (k + suc i) m (rw st at (g z)) in absurd (omega arith)
       by-all y (inr z) g st w = z
 
@@ -210,7 +214,8 @@ module _ (t : List ℕ) (ok : TableRight t) where
         next-arg = rw (bx, nr .1) (omega arith);
       }
     where
-      each : (b : ℕ) (l : Loop) → a ≡ suc (l .row + l .args) → suc (l .row) ≤ b → b < suc (l .row) + suc (l .args) → ((y : ℕ) → l .row < y → y ≤ l .row + l .args → kindOf t y ≡ 5) → kindOf t b ≡ 5
+      each : (b : ℕ) (l : Loop) → a ≡ suc (l .row + l .args) → suc (l .row) ≤ b → b < suc (l .row) + suc (l .args)
+          → ((y : ℕ) → l .row < y → y ≤ l .row + l .args → kindOf t y ≡ 5) → kindOf t b ≡ 5
       each b l at p q all = elim (ℕ-discrete b a) [ yes y ↦ rw y k | no y ↦ all b p (under y) ]
         where
           under : b ≢ a → b ≤ l .row + l .args

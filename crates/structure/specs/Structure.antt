@@ -2,8 +2,8 @@
 -- Main results: `Structure`, `passing-table-has-structure`.
 -- A body is a loop's FOR row, the outermost one the row count. Of loop L: `firstOf t L` is the row behind its ARGs, `endOf t L` its END.
 -- Assumes nothing.
-use Prim.Native.Nat.{ℕ, zero, suc, _+_, _*_, _<_, _≤_}
-use mathlib.Core.Bool.{Bool, true, false}
+use Prim.Native.Nat.{ℕ, suc, _*_, _<_, _≤_}
+use mathlib.Core.Bool.{true}
 use mathlib.Core.List.{List, [], _∷_}
 use mathlib.Core.Logic.{_≢_, _⊎_, inl, inr}
 use mathlib.Core.Path.{_≡_, refl, sym, ap, _∙_, subst}
@@ -11,12 +11,12 @@ use native.Mathlib.Omega.{arith}
 use native.Mathlib.Decide.{decLe}
 use lib.ListN.{length}
 use Rattle.table.specs.Rows.{kindOf, word, size, operandCount}
-use Rattle.table.specs.Scan.{Loop, stackAt, bodyOf, reads, readStack, home, holds, inner, outward}
+use Rattle.table.specs.Scan.{Loop, stackAt, bodyOf, reads, readStack, home, holds, outward}
 use Rattle.table.specs.Check.{tableRefusal, answer}
 use Rattle.table.specs.Bodies.{endOf, argsOf, firstOf}
 use Rattle.table.specs.Right.{TableRight, passing-table-is-right}
-use Rattle.structure.specs.Loops.{Head, innermost}
-use Rattle.structure.specs.Spans.{clash, member-here, nonempty, body-is, open-is-for, open-below, Span, span, end-stands, end-is-endOf, Encloses, same, inside, outermost, open-encloses, loops-nest}
+use Rattle.structure.specs.Loops.{innermost}
+use Rattle.structure.specs.Spans.{member-here, nonempty, body-is, open-is-for, open-below, Span, span, end-stands, end-is-endOf, Encloses, inside, open-encloses, loops-nest}
 use Rattle.structure.specs.Serving.{header-rows, header-bodies, ArgRow, arg-of, NextRow, next-of, args-known}
 use Rattle.structure.specs.Operands.{Operand, operand-of, ArgOperand, arg-operand-of, home-start, home-for, home-here, home-next, reads-here, reads-around}
 use Rattle.structure.specs.Order.{words-of-rows, some-rows, at-most-512-rows, known-kind, starts-first, outs-last, ends-with-out, start-outside, out-outside, nothing-left-open, at-most-eight-deep, op-code, for-codes}

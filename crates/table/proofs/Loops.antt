@@ -5,7 +5,7 @@ use mathlib.Core.Bool.{Bool, true, false, cond}
 use mathlib.Core.List.{List, [], _∷_}
 use mathlib.Core.Path.{_≡_, refl, sym, ap, _∙_, subst}
 use native.Mathlib.Omega.{arith}
-use borrow.Author.Tests.{eq-eqb, ne-eqb}
+use borrow.Author.Tests.{ne-eqb}
 use lib.Dec.{eqb}
 use lib.ListN.{getD, set, length}
 use lib.Seq.{getD-set-same, getD-set-other}
@@ -69,11 +69,13 @@ module _ (kind r : ℕ) (a : List (List ℕ)) (d : ℕ) where
   after-none k z = rw (open-none a d z, z, ne-eqb kind 4 k) (nothing-open (eqb kind 5) (eqb kind 6) (eqb kind 7))
 
   module _ {x y z : ℕ} (some : d ≡ 0 → ⊥) (ex : x ≡ getD (getD a (d - 1) []) 0 0) (ey : y ≡ getD (getD a (d - 1) []) 1 0) (ez : z ≡ getD (getD a (d - 1) []) 2 0) where
-    pub after-arg : (b : List (List ℕ)) → kind ≡ 5 → openLoops b (d - 1 + 1) ≡ entryOf x (y + 1) z ∷ openLoops a (d - 1) → openLoops b (depthAfter kind d) ≡ after kind r (openLoops a d)
+    pub after-arg : (b : List (List ℕ)) → kind ≡ 5 → openLoops b (d - 1 + 1) ≡ entryOf x (y + 1) z ∷ openLoops a (d - 1)
+        → openLoops b (depthAfter kind d) ≡ after kind r (openLoops a d)
     unfolding depthAfter after
     after-arg b k h = let e : d - 1 + 1 ≡ d = omega arith in rw (k, open-some a d some, ← ex, ← ey, ← ez) (ap (openLoops b) (sym e) ∙ h)
 
-    pub after-next : (b : List (List ℕ)) → kind ≡ 6 → openLoops b (d - 1 + 1) ≡ entryOf x y (z + 1) ∷ openLoops a (d - 1) → openLoops b (depthAfter kind d) ≡ after kind r (openLoops a d)
+    pub after-next : (b : List (List ℕ)) → kind ≡ 6 → openLoops b (d - 1 + 1) ≡ entryOf x y (z + 1) ∷ openLoops a (d - 1)
+        → openLoops b (depthAfter kind d) ≡ after kind r (openLoops a d)
     unfolding depthAfter after
     after-next b k h = let e : d - 1 + 1 ≡ d = omega arith in rw (k, open-some a d some, ← ex, ← ey, ← ez) (ap (openLoops b) (sym e) ∙ h)
 

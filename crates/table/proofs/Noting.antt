@@ -1,22 +1,20 @@
 -- What the check notes of a table, from row to row: the record `Noted`, and the answer that is still to come.
 -- Assumes nothing.
-use Prim.Native.Nat.{ℕ, zero, suc, _+_, _-_, _<_, _≤_}
-use mathlib.Core.Bool.{Bool, true, false, cond, _&&_}
-use mathlib.Core.List.{List, [], _∷_}
-use mathlib.Core.Path.{_≡_, refl, sym, ap, _∙_, subst}
+use Prim.Native.Nat.{ℕ, suc, _+_, _-_, _<_, _≤_}
+use mathlib.Core.Bool.{Bool, true, false}
+use mathlib.Core.List.{List}
+use mathlib.Core.Path.{_≡_, refl, sym, _∙_}
 use native.Mathlib.Omega.{arith}
 use native.Mathlib.Decide.{ℕ-discrete}
 use native.Mathlib.Numerals.{add-one}
-use borrow.Author.Tests.{eq-eqb, ne-eqb, ltb-true}
-use lib.Dec.{eqb}
+use borrow.Author.Tests.{ne-eqb, ltb-true}
 use lib.ListN.{getD, set, length, replicate, length-replicate, length-set}
 use lib.Seq.{getD-set-same, getD-set-other}
 use Rattle.table.specs.Rows.{kindOf, size}
-use Rattle.table.specs.Scan.{Loop, after, stackAt, inner, bodyOf, homeBy, home}
-use Rattle.table.specs.Check.{depthRight, outside, kindBefore, endRight, rowRefusal, answer, rowsFrom}
+use Rattle.table.specs.Scan.{after, stackAt, inner, bodyOf, homeBy, home}
+use Rattle.table.specs.Check.{depthRight, endRight, rowRefusal, answer, rowsFrom}
 use Rattle.table.specs.Right.{passing-row-is-right}
 use Rattle.table.specs.Kept.{openLoops, depthAfter, Noted}
-use Rattle.table.proofs.Loops.{open-outside}
 
 pub noted-none : (t : List ℕ) (a : List (List ℕ)) → size t ≤ 512 → Noted t 0 (replicate 512 0) (replicate 512 0) a 0
 unfolding openLoops stackAt
@@ -40,7 +38,8 @@ noted l i x f h e all k less =
     below : (k : ℕ) → (k ≡ i → ⊥) → k < i + 1 → k < i
     below k q less = omega arith
 
-pub noted-more : (t : List ℕ) (i : ℕ) {kind n h b d e : ℕ} {hs bs : List ℕ} {a : List (List ℕ)} (a₁ : List (List ℕ)) → Noted t i hs bs a d → i < n → n ≡ size t → kind ≡ kindOf t i
+pub noted-more : (t : List ℕ) (i : ℕ) {kind n h b d e : ℕ} {hs bs : List ℕ} {a : List (List ℕ)} (a₁ : List (List ℕ)) → Noted t i hs bs a d → i < n
+    → n ≡ size t → kind ≡ kindOf t i
     → h ≡ homeBy n kind i (openLoops a d) → b ≡ inner n (openLoops a d) → openLoops a₁ (depthAfter kind d) ≡ after kind i (openLoops a d)
     → (e ≡ depthAfter kind d) × (e ≤ 8) → Noted t (i + 1) (set hs i h) (set bs i b) a₁ e
 unfolding home bodyOf stackAt

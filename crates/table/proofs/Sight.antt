@@ -1,15 +1,13 @@
 -- Visible values: what the check looks at, one test after the other.
 -- Assumes nothing.
-use Prim.Native.Nat.{ℕ, zero, suc, _+_, _-_, _<_, _≤_}
+use Prim.Native.Nat.{ℕ, _-_, _<_, _≤_}
 use mathlib.Core.Bool.{Bool, true, false, cond, not, _&&_}
-use mathlib.Core.List.{List, [], _∷_}
-use mathlib.Core.Path.{_≡_, refl, sym, ap, _∙_}
-use native.Mathlib.Omega.{arith}
-use borrow.Author.Tests.{eq-eqb, ne-eqb, lt-ltb, le-ltb, le-leb, lt-leb}
+use mathlib.Core.List.{List}
+use mathlib.Core.Path.{_≡_, sym, ap, _∙_}
+use borrow.Author.Tests.{ne-eqb, lt-ltb, le-ltb, le-leb, lt-leb}
 use lib.Dec.{eqb}
-use lib.ListN.{getD}
 use Rattle.table.specs.Rows.{kindOf, size}
-use Rattle.table.specs.Scan.{Loop, stackAt, bodyOf, outward, readStack, home, holds, bodyOpen, endPassed, visible}
+use Rattle.table.specs.Scan.{stackAt, bodyOf, outward, readStack, home, holds, bodyOpen, endPassed, visible}
 use Rattle.table.specs.Kept.{openLoops}
 use Rattle.table.proofs.Loops.{open-outward}
 

@@ -1,9 +1,9 @@
 -- One turn of each loop of the check, and its end.
 -- Assumes nothing.
-use Prim.Native.Nat.{ℕ, zero, suc, _+_, _-_, _<_, _≤_}
-use mathlib.Core.Bool.{Bool, true, false, cond, _&&_}
-use mathlib.Core.List.{List, [], _∷_}
-use mathlib.Core.Path.{_≡_, refl, sym, ap, _∙_}
+use Prim.Native.Nat.{ℕ, suc, _+_, _-_, _<_, _≤_}
+use mathlib.Core.Bool.{Bool, true, false}
+use mathlib.Core.List.{List, []}
+use mathlib.Core.Path.{_≡_}
 use native.Mathlib.Omega.{arith}
 use borrow.Author.Tests.{eq-eqb, ne-eqb}
 use lib.ListN.{getD}
@@ -11,7 +11,7 @@ use Rattle.table.specs.Rows.{kindOf, word, sortOf, wantedSort}
 use Rattle.table.specs.Scan.{holds, visible}
 use Rattle.table.specs.Check.{zerosFrom, namesFrom, typesFrom}
 use Rattle.table.specs.Kept.{openLoops}
-use Rattle.table.proofs.Loops.{open-some, open-none}
+use Rattle.table.proofs.Loops.{open-some}
 
 -- from k up to the end e
 less : (e k : ℕ) → k < e → e - k ≡ suc (e - (k + 1))

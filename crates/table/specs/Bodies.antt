@@ -3,7 +3,7 @@
 -- Main names: `Row`, `rowAt`, `endOf`, `argsOf`, `firstOf`, `argOf`, `nextOf`, `parent`, `operand`.
 -- Assumes nothing.
 use Prim.Native.Nat.{ℕ, zero, suc, _+_, _-_}
-use mathlib.Core.Bool.{Bool, true, false, cond, _&&_}
+use mathlib.Core.Bool.{Bool, cond, _&&_}
 use mathlib.Core.List.{List, [], _∷_}
 use lib.Dec.{eqb}
 use Rattle.table.specs.Rows.{kindOf, word, size, INPUT, CONST, OP, PICK, FOR, ARG, NEXT, END, OUT, firstOperand}

@@ -1,8 +1,8 @@
 -- A loop table as its words: rows of six, the words each kind uses, the operands, the sort of a value.
 -- Main names: `kindOf`, `word`, `size`, `usedWords`, `operandCount`, `firstOperand`, `sortOf`.
 -- Assumes nothing.
-use Prim.Native.Nat.{ℕ, zero, suc, _+_, _*_, _/_}
-use mathlib.Core.Bool.{Bool, true, false, cond, _&&_}
+use Prim.Native.Nat.{ℕ, _+_, _*_, _/_}
+use mathlib.Core.Bool.{cond}
 use mathlib.Core.List.{List}
 use lib.Dec.{eqb, leb}
 use lib.ListN.{getD, length}

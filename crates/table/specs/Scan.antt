@@ -3,7 +3,7 @@
 -- A body is named by its FOR row, the outermost one by the row count.
 -- Assumes nothing.
 use Prim.Native.Nat.{ℕ, zero, suc, _+_}
-use mathlib.Core.Bool.{Bool, true, false, cond, not, _&&_, _||_}
+use mathlib.Core.Bool.{Bool, true, false, cond, not, _&&_}
 use mathlib.Core.List.{List, [], _∷_}
 use lib.Dec.{eqb, leb, ltb}
 use Rattle.table.specs.Rows.{kindOf, size, FOR, ARG, NEXT, END, CONST}

@@ -1,14 +1,14 @@
 // The check of a loop table's rows: refusals 1 to 9 of the paper, with the row that tells the fitter what to mend.
 // `check_rows` is the entry. The stack of open loops is eight entries of three words (first row, ARGs, NEXTs), by value.
 ghost use mathlib.Core.Path.{_≡_};
-ghost use Prim.Native.Nat.{ℕ, _+_, _-_, _*_, _/_, _%_, _<_, _≤_};
+ghost use Prim.Native.Nat.{_+_, _-_, _*_, _/_, _%_, _<_, _≤_};
 ghost use mathlib.Core.Bool.{true, cond};
 ghost use lib.Dec.{eqb};
 ghost use mathlib.Core.List.{[], _∷_};
-ghost use lib.ListN.{length, getD, set, replicate};
+ghost use lib.ListN.{length, getD};
 ghost use Rattle.table.specs.Rows.{kindOf, word, size, usedWords, operandCount, firstOperand, sortOf, wantedSort};
 ghost use Rattle.table.specs.Scan.{after, inner, homeBy, holds, bodyOpen, visible, stackAt};
-ghost use Rattle.table.specs.Check.{lengthRight, kindRight, spareRight, codeRight, kindBefore, follows, argLeft, allServed, outside, stands, placeRight, depthRight, namesRight, typesRight, endRight, rowRefusal, answer, rowsFrom, tableRefusal};
+ghost use Rattle.table.specs.Check.{spareRight, codeRight, kindBefore, follows, argLeft, allServed, outside, stands, placeRight, depthRight, namesRight, typesRight, endRight, rowRefusal, answer, rowsFrom, tableRefusal};
 ghost use Rattle.table.specs.Kept.{entryOf, openLoops, depthAfter, Counted, Noted};
 
 // The kinds of rows.

@@ -1,33 +1,24 @@
-use Rattle.table.proofs.Loops.{open-none, open-some}
-use mathlib.Core.Path.{_≡_, ap, sym, _∙_}
+-- `table::all_served` meets its contract. The last entry below the depth is the innermost loop. Assumes nothing.
 use borrow.Author.Needs.{needs}
+use Rattle.table.proofs.Loops.{open-none, open-some}
 use Rattle.table.proofs.all_served.Statement.{statement}
 use Rattle.table.proofs.all_served.Tie as tie
-use Rattle.table.proofs.all_served.Reads as reads
-use Rattle.table.proofs.all_served.Lts as lts
-use Rattle.table.proofs.entry.Reads as entry-reads
 
--- src/lib.rt:222:9
 returns : tie.Need-returns
 returns c = rw (open-none _ _ (c .if1 .taken))
 
--- src/lib.rt:224:18
 sub-entry : tie.Need-sub-entry
 sub-entry c = search needs
 
--- src/lib.rt:224:5
 entry-requires : tie.Need-entry-requires
 entry-requires c κs = search needs
 
--- src/lib.rt:224:44
 sub-entry-2 : tie.Need-sub-entry-2
 sub-entry-2 c = search needs
 
--- src/lib.rt:224:31
 entry-requires-2 : tie.Need-entry-requires-2
 entry-requires-2 c κs = search needs
 
--- src/lib.rt:217:1
 returns-2 : tie.Need-returns-2
 returns-2 c = rw (open-some _ _ (c .before .before .if1 .left), c .entry2 .ensures, c .before .entry .ensures)
 

@@ -1,37 +1,28 @@
-use Rattle.table.specs.Check.{tableRefusal, lengthRight}
-use borrow.Author.Tests.{ne-eqb, le-leb, lt-leb}
-use native.Mathlib.Omega.{arith}
+-- `table::check_rows` meets its contract. LENGTH first, then the rows. Assumes nothing.
 use borrow.Author.Needs.{needs}
+use borrow.Author.Tests.{ne-eqb, le-leb, lt-leb}
+use Rattle.table.specs.Check.{tableRefusal, lengthRight}
 use Rattle.table.proofs.check_rows.Statement.{statement}
 use Rattle.table.proofs.check_rows.Tie as tie
-use Rattle.table.proofs.check_rows.Reads as reads
-use Rattle.table.proofs.check_rows.Lts as lts
-use Rattle.table.proofs.rows_checked.Reads as rows-checked-reads
 
--- src/lib.rt:471:9
 returns : tie.Need-returns
 unfolding tableRefusal lengthRight
 returns c = rw (ne-eqb _ 0 (c .if1 .taken))
 
--- src/lib.rt:474:9
 returns-2 : tie.Need-returns-2
 unfolding tableRefusal lengthRight
 returns-2 c = rw (c .before .if1 .left, lt-leb 1 _ (c .if2 .taken))
 
--- src/lib.rt:477:9
 returns-3 : tie.Need-returns-3
 unfolding tableRefusal lengthRight
 returns-3 c = rw (c .before .before .if1 .left, le-leb 1 _ (c .before .if2 .left), lt-leb _ 512 (c .if3 .taken))
 
--- src/lib.rt:479:25
 cast-rows-checked : tie.Need-cast-rows-checked
 cast-rows-checked c = search needs
 
--- src/lib.rt:479:5
 rows-checked-requires : tie.Need-rows-checked-requires
 rows-checked-requires c κs = search needs
 
--- src/lib.rt:466:1
 returns-4 : tie.Need-returns-4
 unfolding tableRefusal lengthRight
 returns-4 c = let i = c .before in rw (i .before .before .if1 .left, le-leb 1 _ (i .before .if2 .left), le-leb _ 512 (i .if3 .left)) (c .rows-checked .ensures)

@@ -1,19 +1,12 @@
-use borrow.Author.Needs.{needs}
-use Rattle.table.proofs.Turns.{names-go, names-stop, names-end}
-use Rattle.table.specs.Check.{namesRight, namesFrom}
-use Rattle.table.specs.Rows.{operandCount, firstOperand}
-use Prim.Native.Nat.{ℕ, _+_, _-_, _≤_}
-use mathlib.Core.Path.{_≡_, ap, sym, _∙_}
+-- `table::names_right` meets its contract. Invariant: the operands from word k on decide the answer. Assumes nothing.
+use Prim.Native.Nat.{_+_, _-_, _≤_}
+use mathlib.Core.Path.{_≡_, sym, _∙_}
 use native.Mathlib.Omega.{arith}
+use borrow.Author.Needs.{needs}
+use Rattle.table.specs.Check.{namesRight, namesFrom}
+use Rattle.table.proofs.Turns.{names-go, names-stop, names-end}
 use Rattle.table.proofs.names_right.Statement.{statement}
 use Rattle.table.proofs.names_right.Tie as tie
-use Rattle.table.proofs.names_right.Reads as reads
-use Rattle.table.proofs.names_right.Lts as lts
-use Rattle.table.proofs.first_operand.Reads as first-operand-reads
-use Rattle.table.proofs.is_visible.Reads as is-visible-reads
-use Rattle.table.proofs.kind_at.Reads as kind-at-reads
-use Rattle.table.proofs.operand_count.Reads as operand-count-reads
-use Rattle.table.proofs.word_at.Reads as word-at-reads
 
 abbrev Inv-loop : tie.InvT-loop
 Inv-loop table homes bodies stack d n r kind k₀ end k = (k ≤ end) × (namesFrom (end - k) table r k ≡ namesRight table r)
@@ -21,56 +14,44 @@ Inv-loop table homes bodies stack d n r kind k₀ end k = (k ≤ end) × (namesF
 abbrev μ-loop : tie.MeasureT-loop
 μ-loop table homes bodies stack d n r kind k₀ end k = end - k
 
--- src/lib.rt:310:9
 kind-at-requires : tie.Need-kind-at-requires Inv-loop μ-loop
 kind-at-requires c κs = omega arith
 
--- src/lib.rt:311:9
 first-operand-requires : tie.Need-first-operand-requires Inv-loop μ-loop
 first-operand-requires c κs = search needs
 
--- src/lib.rt:312:19
 operand-count-requires : tie.Need-operand-count-requires Inv-loop μ-loop
 operand-count-requires c κs = search needs
 
--- src/lib.rt:312:15
 add-end : tie.Need-add-end Inv-loop μ-loop
 add-end c = search needs
 
--- src/lib.rt:313:5
 loop-holds : tie.Need-loop-holds Inv-loop μ-loop
 unfolding namesRight
 loop-holds c = let f = c .before .first-operand in let m = c .operand-count in
     let e : f .result + m .result - f .result ≡ m .result = omega arith in
     (omega arith, rw (e, m .ensures .0, f .ensures .0, c .before .before .kind-at .ensures))
 
--- src/lib.rt:314:61
 word-at-requires : tie.Need-word-at-requires Inv-loop μ-loop
 word-at-requires c κs = let s = c .before .before .before .before .before .before in (omega arith, omega (arith, s .pre .2 .rows), omega arith)
 
--- src/lib.rt:314:12
 is-visible-requires : tie.Need-is-visible-requires Inv-loop μ-loop
 is-visible-requires c κs = c .before .before .before .before .before .before .before .pre
 
--- src/lib.rt:315:13
 add-k : tie.Need-add-k Inv-loop μ-loop
 add-k c = search needs
 
--- src/lib.rt:313:5
 loop-less : tie.Need-loop-less Inv-loop μ-loop
 loop-less c = search needs
 
--- src/lib.rt:313:5
 loop-again : tie.Need-loop-again Inv-loop μ-loop
 loop-again c = let w = c .before .before in let l = w .before in
     (omega arith, sym (names-go _ _ _ _ (l .loop-test .taken) (w .word-at .ensures) (c .before .is-visible .ensures) (c .if1 .taken)) ∙ l .before .loop .inv .1)
 
--- src/lib.rt:317:13
 returns : tie.Need-returns Inv-loop μ-loop
 returns c = let w = c .before .before in let l = w .before in
     sym (names-stop _ _ _ _ (l .loop-test .taken) (w .word-at .ensures) (c .before .is-visible .ensures) (c .if1 .left)) ∙ l .before .loop .inv .1
 
--- src/lib.rt:306:1
 returns-2 : tie.Need-returns-2 Inv-loop μ-loop
 returns-2 c = sym (names-end _ _ _ _ (c .loop-test .left)) ∙ c .before .loop .inv .1
 

@@ -1,42 +1,34 @@
-use Rattle.table.specs.Rows.{operandCount}
-use borrow.Author.Tests.{ne-eqb}
+-- `table::operand_count` meets its contract. Arm by arm: the kind fixes the count. Assumes nothing.
 use native.Mathlib.Omega.{arith}
+use borrow.Author.Tests.{ne-eqb}
+use Rattle.table.specs.Rows.{operandCount}
 use Rattle.table.proofs.operand_count.Statement.{statement}
 use Rattle.table.proofs.operand_count.Tie as tie
-use Rattle.table.proofs.operand_count.Reads as reads
-use Rattle.table.proofs.operand_count.Lts as lts
 
--- src/lib.rt:24:1
 returns : tie.Need-returns
 unfolding operandCount
 returns c = (rw (c .match .keys1), omega arith)
 
--- src/lib.rt:24:1
 returns-2 : tie.Need-returns-2
 unfolding operandCount
 returns-2 c = (rw (c .match .keys2), omega arith)
 
--- src/lib.rt:24:1
 returns-3 : tie.Need-returns-3
 unfolding operandCount
 returns-3 c = (rw (c .match .keys3), omega arith)
 
--- src/lib.rt:24:1
 returns-4 : tie.Need-returns-4
 unfolding operandCount
 returns-4 c = (rw (c .match .keys4), omega arith)
 
--- src/lib.rt:24:1
 returns-5 : tie.Need-returns-5
 unfolding operandCount
 returns-5 c = (rw (c .match .keys5), omega arith)
 
--- src/lib.rt:24:1
 returns-6 : tie.Need-returns-6
 unfolding operandCount
 returns-6 c = (rw (c .match .keys6), omega arith)
 
--- src/lib.rt:24:1
 returns-7 : tie.Need-returns-7
 unfolding operandCount
 returns-7 c = let r = c .match .rest in

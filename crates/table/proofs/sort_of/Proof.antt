@@ -1,43 +1,33 @@
-use Rattle.table.specs.Rows.{sortOf}
-use borrow.Author.Tests.{ne-eqb, le-leb, lt-leb}
+-- `table::sort_of` meets its contract. A row past the end reads as INPUT, whose value is a word. Assumes nothing.
 use Prim.Native.Nat.{_*_}
-use lib.ListN.{List·getD-eq-default, getD}
-use mathlib.Core.Path.{_≡_, sym, _∙_}
 use native.Mathlib.Omega.{arith}
 use borrow.Author.Needs.{needs}
+use borrow.Author.Tests.{ne-eqb, le-leb, lt-leb}
+use lib.ListN.{List·getD-eq-default}
+use Rattle.table.specs.Rows.{sortOf}
 use Rattle.table.proofs.sort_of.Statement.{statement}
 use Rattle.table.proofs.sort_of.Tie as tie
-use Rattle.table.proofs.sort_of.Reads as reads
-use Rattle.table.proofs.sort_of.Lts as lts
-use Rattle.table.proofs.kind_at.Reads as kind-at-reads
-use Rattle.table.proofs.word_at.Reads as word-at-reads
 
--- src/lib.rt:74:12
 kind-at-requires : tie.Need-kind-at-requires
 kind-at-requires c κs = search needs
 
--- src/lib.rt:75:16
 word-at-requires : tie.Need-word-at-requires
 word-at-requires c κs = search needs
 
--- src/lib.rt:76:17
 returns : tie.Need-returns
 unfolding sortOf
 returns c = let k = c .before .before .before in
     simp (← k .kind-at .ensures, c .before .before .if2 .taken, ← c .before .word-at .ensures, le-leb _ _ (c .if3 .taken))
 
--- src/lib.rt:69:1
 returns-2 : tie.Need-returns-2
 unfolding sortOf
 returns-2 c = let k = c .before .before .before in
     simp (← k .kind-at .ensures, c .before .before .if2 .taken, ← c .before .word-at .ensures, lt-leb _ _ (c .if3 .left))
 
--- src/lib.rt:69:1
 returns-3 : tie.Need-returns-3
 unfolding sortOf
 returns-3 c = simp (← c .before .kind-at .ensures, ne-eqb _ 2 (c .if2 .left))
 
--- src/lib.rt:69:1
 returns-4 : tie.Need-returns-4
 unfolding sortOf
 returns-4 c = let s = c .before .before in

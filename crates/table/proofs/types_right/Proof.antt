@@ -1,20 +1,12 @@
-use borrow.Author.Needs.{needs}
-use Rattle.table.proofs.Turns.{types-go, types-stop, types-end}
-use Rattle.table.specs.Check.{typesRight, typesFrom}
-use Rattle.table.specs.Rows.{operandCount, firstOperand}
-use Prim.Native.Nat.{ℕ, _+_, _-_, _≤_}
-use mathlib.Core.Path.{_≡_, ap, sym, _∙_}
+-- `table::types_right` meets its contract. Invariant: the operands from word k on decide the answer. Assumes nothing.
+use Prim.Native.Nat.{_+_, _-_, _≤_}
+use mathlib.Core.Path.{_≡_, sym, _∙_}
 use native.Mathlib.Omega.{arith}
+use borrow.Author.Needs.{needs}
+use Rattle.table.specs.Check.{typesRight, typesFrom}
+use Rattle.table.proofs.Turns.{types-go, types-stop, types-end}
 use Rattle.table.proofs.types_right.Statement.{statement}
 use Rattle.table.proofs.types_right.Tie as tie
-use Rattle.table.proofs.types_right.Reads as reads
-use Rattle.table.proofs.types_right.Lts as lts
-use Rattle.table.proofs.first_operand.Reads as first-operand-reads
-use Rattle.table.proofs.kind_at.Reads as kind-at-reads
-use Rattle.table.proofs.operand_count.Reads as operand-count-reads
-use Rattle.table.proofs.sort_of.Reads as sort-of-reads
-use Rattle.table.proofs.wanted_sort.Reads as wanted-sort-reads
-use Rattle.table.proofs.word_at.Reads as word-at-reads
 
 abbrev Inv-loop : tie.InvT-loop
 Inv-loop table n r kind k₀ end k = (k ≤ end) × (typesFrom (end - k) table r k ≡ typesRight table r)
@@ -22,60 +14,47 @@ Inv-loop table n r kind k₀ end k = (k ≤ end) × (typesFrom (end - k) table r
 abbrev μ-loop : tie.MeasureT-loop
 μ-loop table n r kind k₀ end k = end - k
 
--- src/lib.rt:327:9
 kind-at-requires : tie.Need-kind-at-requires Inv-loop μ-loop
 kind-at-requires c κs = search needs
 
--- src/lib.rt:328:9
 first-operand-requires : tie.Need-first-operand-requires Inv-loop μ-loop
 first-operand-requires c κs = search needs
 
--- src/lib.rt:329:19
 operand-count-requires : tie.Need-operand-count-requires Inv-loop μ-loop
 operand-count-requires c κs = search needs
 
--- src/lib.rt:329:15
 add-end : tie.Need-add-end Inv-loop μ-loop
 add-end c = search needs
 
--- src/lib.rt:330:5
 loop-holds : tie.Need-loop-holds Inv-loop μ-loop
 unfolding typesRight
 loop-holds c = let f = c .before .first-operand in let m = c .operand-count in
     let e : f .result + m .result - f .result ≡ m .result = omega arith in
     (omega arith, rw (e, m .ensures .0, f .ensures .0, c .before .before .kind-at .ensures))
 
--- src/lib.rt:331:30
 word-at-requires : tie.Need-word-at-requires Inv-loop μ-loop
 word-at-requires c κs = search needs
 
--- src/lib.rt:331:12
 sort-of-requires : tie.Need-sort-of-requires Inv-loop μ-loop
 sort-of-requires c κs = search needs
 
--- src/lib.rt:331:55
 wanted-sort-requires : tie.Need-wanted-sort-requires Inv-loop μ-loop
 wanted-sort-requires c κs = search needs
 
--- src/lib.rt:332:13
 returns : tie.Need-returns Inv-loop μ-loop
 returns c = let s = c .before .before in let w = s .before in let l = w .before in
     sym (types-stop _ _ _ _ (l .loop-test .taken) (l .before .before .before .before .kind-at .ensures) (w .word-at .ensures) (s .sort-of .ensures) (c .before .wanted-sort .ensures) (c .if1 .taken)) ∙ l .before .loop .inv .1
 
--- src/lib.rt:334:9
 add-k : tie.Need-add-k Inv-loop μ-loop
 add-k c = search needs
 
--- src/lib.rt:330:5
 loop-less : tie.Need-loop-less Inv-loop μ-loop
 loop-less c = search needs
 
--- src/lib.rt:330:5
 loop-again : tie.Need-loop-again Inv-loop μ-loop
 loop-again c = let s = c .before .before in let w = s .before in let l = w .before in
     (omega arith, sym (types-go _ _ _ _ (l .loop-test .taken) (l .before .before .before .before .kind-at .ensures) (w .word-at .ensures) (s .sort-of .ensures) (c .before .wanted-sort .ensures) (c .if1 .left)) ∙ l .before .loop .inv .1)
 
--- src/lib.rt:323:1
 returns-2 : tie.Need-returns-2 Inv-loop μ-loop
 returns-2 c = sym (types-end _ _ _ _ (c .loop-test .left)) ∙ c .before .loop .inv .1
 

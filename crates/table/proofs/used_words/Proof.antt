@@ -1,37 +1,30 @@
-use Rattle.table.specs.Rows.{usedWords}
-use borrow.Author.Tests.{ne-eqb}
+-- `table::used_words` meets its contract. Arm by arm: the kind fixes the count. Assumes nothing.
 use native.Mathlib.Omega.{arith}
+use borrow.Author.Tests.{ne-eqb}
+use Rattle.table.specs.Rows.{usedWords}
 use Rattle.table.proofs.used_words.Statement.{statement}
 use Rattle.table.proofs.used_words.Tie as tie
-use Rattle.table.proofs.used_words.Reads as reads
-use Rattle.table.proofs.used_words.Lts as lts
 
--- src/lib.rt:11:1
 returns : tie.Need-returns
 unfolding usedWords
 returns c = (rw (c .match .keys1), omega arith)
 
--- src/lib.rt:11:1
 returns-2 : tie.Need-returns-2
 unfolding usedWords
 returns-2 c = (rw (c .match .keys2), omega arith)
 
--- src/lib.rt:11:1
 returns-3 : tie.Need-returns-3
 unfolding usedWords
 returns-3 c = (rw (c .match .keys3), omega arith)
 
--- src/lib.rt:11:1
 returns-4 : tie.Need-returns-4
 unfolding usedWords
 returns-4 c = (rw (c .match .keys4), omega arith)
 
--- src/lib.rt:11:1
 returns-5 : tie.Need-returns-5
 unfolding usedWords
 returns-5 c = (rw (c .match .keys5), omega arith)
 
--- src/lib.rt:11:1
 returns-6 : tie.Need-returns-6
 unfolding usedWords
 returns-6 c = let r = c .match .rest in

