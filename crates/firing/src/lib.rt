@@ -26,7 +26,7 @@ fn token_at(state: &[u32], wire: usize) -> step::Token
     }
 }
 
-fn is_empty(state: &[u32], wire: usize) -> bool
+pub fn is_empty(state: &[u32], wire: usize) -> bool
     requires { ⌜ 2 * wire + 1 < length (now state) ⌝ }
     ensures room { λ r. ⌜ r ≡ isEmpty (getD (now (state .entry)) (2 * wire) 0) ⌝ }
 {
@@ -174,7 +174,7 @@ pub fn row_of(graph: &[u32], i: usize) -> Row
 }
 
 // What the node sees.
-fn see(state: &[u32], row: Row) -> step::Seen
+pub fn see(state: &[u32], row: Row) -> step::Seen
     requires { ⌜ Within row (length (now state)) ⌝ }
     ensures seen { λ r. ⌜ Sees (now (state .entry)) row r ⌝ }
 {

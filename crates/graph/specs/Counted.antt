@@ -56,7 +56,7 @@ after-one t w x m h e = go (eqb w x) refl
         let none : m + 0 ≡ m = omega arith in
         rw (getD-set-other t x w (onceMore (getD t x 0)) 0 (eqb-false w x q), e, none)
 
-counted-at : (xs t : List ℕ) (w m : ℕ) → w < length t → getD t w 0 ≡ upToTwo m
+pub counted-at : (xs t : List ℕ) (w m : ℕ) → w < length t → getD t w 0 ≡ upToTwo m
     → getD (counted t xs) w 0 ≡ upToTwo (m + times w xs)
 unfolding counted times
 counted-at [] t w m h e = let none : m + 0 ≡ m = omega arith in rw none e

@@ -9,17 +9,18 @@
 -- Assumes nothing.
 use Prim.Native.Nat.{ℕ, _-_, _≤_, _<_}
 use mathlib.Core.Path.{_≡_}
-use mathlib.Core.Bool.{Bool, true, false}
+use mathlib.Core.Bool.{Bool, true, false, not, _||_}
 use mathlib.Core.List.{List}
 use lib.Dec.{eqb, ltb}
 use lib.ListN.{getD, length}
 use Rattle.word.specs.Words.{pick}
 use Rattle.graph.specs.Below.{every}
-use Rattle.graph.specs.Graph.{nodeCount}
+use Rattle.graph.specs.Graph.{nodeCount, wireCount}
 use Rattle.graph.specs.Refusal.{graphRefusal}
-use Rattle.state.specs.Net.{netOf}
+use Rattle.state.specs.Net.{netOf, fire, isReady}
 use Rattle.state.specs.Legal.{stateLength}
-use Rattle.state.specs.Run.{At, run, Outcome, outcome, SPENT, COMPLETE, ZERO-STEP, STRANDED}
+use Rattle.state.specs.State.{recordAt}
+use Rattle.state.specs.Run.{At, run, Outcome, outcome, isFull, isResult, SPENT, COMPLETE, ZERO-STEP, STRANDED}
 use Rattle.machine.specs.Entries.{first, stateRefusal}
 use Rattle.run.specs.declared.Ran.{Ran}
 use Rattle.run.specs.declared.Ran.the-variants.{Refused, Spent, Complete, ZeroStep, Stranded}
@@ -84,3 +85,20 @@ at s l = record { state = s; left = l }
 
 abbrev pub Below : List ℕ → List ℕ → Type 0
 Below g order = (k : ℕ) → k < length order → getD order k 0 < nodeCount g
+
+-- what a run answers once its firings are made
+pub record Ended (g s : List ℕ) (made : ℕ) (r : Ran) : Type 0 where
+  pub number : ranNumber r ≡ 0
+  pub outcome : ranOutcome r ≡ outcome g s
+  pub firings : ranFirings r ≡ made
+
+-- node i is not ready
+abbrev pub idle : List ℕ → List ℕ → ℕ → Bool
+idle g s i = not (isReady (fire (netOf g) i s))
+
+-- wire w is a result, or empty; node i is in phase 0
+abbrev pub otherEmpty : List ℕ → List ℕ → ℕ → Bool
+otherEmpty g s w = isResult g w || not (isFull s w)
+
+abbrev pub atRest : List ℕ → List ℕ → ℕ → Bool
+atRest g s i = eqb (recordAt (wireCount g) s i .phase) 0

@@ -1,3 +1,4 @@
+-- `run::sweep_all` meets its contract. Assumes nothing.
 use Rattle.run.proofs.Turns.{sweeps-go, sweeps-stop}
 use Rattle.run.specs.Entry.{at}
 use Rattle.state.specs.Run.{sweeps, finish}
@@ -10,9 +11,6 @@ use mathlib.Core.Path.{_≡_, refl, sym, ap, _∙_}
 use Prim.Native.Nat.{ℕ, suc, _+_, _-_, _*_, _≤_, _<_}
 use Rattle.run.proofs.sweep_all.Statement.{statement}
 use Rattle.run.proofs.sweep_all.Tie as tie
-use Rattle.run.proofs.sweep_all.Reads as reads
-use Rattle.run.proofs.sweep_all.Lts as lts
-use Rattle.run.proofs.sweep_once.Reads as sweep-once-reads
 
 abbrev Inv-loop : tie.InvT-loop
 Inv-loop graph state₀ allowance left₀ state left = (length state ≡ length state₀) × (left ≤ allowance) × ((f : ℕ) × (left ≤ f) × (sweeps (netOf graph) (suc f) (nodeCount graph) (at state left) ≡ finish (netOf graph) (nodeCount graph) (at state₀ allowance)))
@@ -20,28 +18,22 @@ Inv-loop graph state₀ allowance left₀ state left = (length state ≡ length 
 abbrev μ-loop : tie.MeasureT-loop
 μ-loop graph state₀ allowance left₀ state left = left
 
--- src/lib.rt:73:5
 loop-holds : tie.Need-loop-holds Inv-loop μ-loop
 unfolding finish
 loop-holds c = (refl, omega arith, (c .before .before .args .allowance, omega arith, refl))
 
--- src/lib.rt:75:9
 sweep-once-requires : tie.Need-sweep-once-requires Inv-loop μ-loop
 sweep-once-requires c κs = record { graph = c .before .before .before .before .pre .graph; size = c .before .loop .inv .0 ∙ c .before .before .before .before .pre .size }
 
--- src/lib.rt:73:5
 loop-less : tie.Need-loop-less Inv-loop μ-loop
 loop-less c = omega arith
 
--- src/lib.rt:73:5
 loop-again : tie.Need-loop-again Inv-loop μ-loop
 loop-again c = (c .before .before .before .sweep-once .kept .1 .0 ∙ c .before .before .before .before .before .loop .inv .0, omega arith, (c .before .before .before .before .before .loop .inv .2 .0 - 1, omega arith, sym (sweeps-go _ _ _ _ (c .before .before .before .before .before .loop .inv .2 .0) (omega arith) (c .before .before .before .sweep-once .ensures .0) (c .if1 .left)) ∙ c .before .before .before .before .before .loop .inv .2 .2))
 
--- src/lib.rt:68:1
 same-length : tie.Need-same-length Inv-loop μ-loop
 same-length c = c .before .before .before .sweep-once .kept .1 .0 ∙ c .before .before .before .before .before .loop .inv .0
 
--- src/lib.rt:68:1
 returns : tie.Need-returns Inv-loop μ-loop
 returns c = (sym (sweeps-stop _ _ _ _ (c .before .before .before .before .before .loop .inv .2 .0) (c .before .before .before .sweep-once .ensures .0) (c .if1 .taken)) ∙ c .before .before .before .before .before .loop .inv .2 .2, omega arith)
 
