@@ -8,3 +8,4 @@ pub mod Operands
 pub mod Order
 pub mod Paper
 pub mod Structure
+pub mod Cases
