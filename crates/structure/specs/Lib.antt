@@ -1,4 +1,5 @@
 -- The structure of a table that passes refusals 1 to 9.
+pub mod Decoded
 pub mod Place
 pub mod Loops
 pub mod Spans
@@ -7,3 +8,4 @@ pub mod Operands
 pub mod Order
 pub mod Paper
 pub mod Structure
+pub mod Cases

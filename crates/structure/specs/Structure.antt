@@ -47,6 +47,8 @@ pub record Structure (t : List ℕ) : Type 0 where
   -- each loop has its END, and is open from the row behind its FOR up to it
   pub loop-span : (L : ℕ) → L < size t → kindOf t L ≡ 4 → Span t L
   pub loop-first : (L : ℕ) → L < size t → kindOf t L ≡ 4 → (L < firstOf t L) × (firstOf t L ≤ endOf t L)
+  -- a row of another kind than ARG stands behind the ARGs of every loop that starts above it
+  pub past-args : (L r : ℕ) → kindOf t r ≢ 5 → L < r → firstOf t L ≤ r
   pub loop-args : (L a : ℕ) → L < size t → kindOf t L ≡ 4 → L < a → a < firstOf t L → (kindOf t a ≡ 5) × (bodyOf t a ≡ L)
   pub end-of : (r : ℕ) → r < size t → kindOf t r ≡ 7 → (kindOf t (bodyOf t r) ≡ 4) × (bodyOf t r < r) × (endOf t (bodyOf t r) ≡ r)
   -- loops nest
@@ -146,6 +148,7 @@ module _ (t : List ℕ) (ok : TableRight t) where
         all-shut = nothing-left-open t ok;
         loop-span = span t ok;
         loop-first = λ L less k. (first-above t L, first-below L less k);
+        past-args = past-header;
         loop-args = λ L a less k p q. (header-rows t L a p q, header-bodies t L a k p q);
         end-of = end-row;
         nest = λ L M less kL kM p q. (past-header L M (λ e. omega arith) p, loops-nest t ok L M less kL kM p q);

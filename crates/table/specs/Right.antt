@@ -1,5 +1,5 @@
 -- What a passing row and a passing table have passed, test by test.
--- Main results: `passing-row-is-right`, `passing-table-is-right`.
+-- Main results: `number-0-is-right` and `right-table-passes`: the answer is 0 exactly where every test holds. `passing-row-is-right`, `right-row-passes` say it of a row.
 -- Assumes nothing.
 use Prim.Native.Nat.{ℕ, zero, suc, _+_, _<_, _≤_}
 use mathlib.Core.Bool.{Bool, true, false, cond}
@@ -55,16 +55,15 @@ passing-row-is-right t r e =
     }
 
 -- a test that leads to no refusal holds
-held : (b : Bool) (x : Refusal) (k r : ℕ) → cond b x (answer (suc k) r) ≡ answer 0 0 → (b ≡ true) × (x ≡ answer 0 0)
+held : (b : Bool) (x : Refusal) (k r : ℕ) → cond b x (answer (suc k) r) .number ≡ 0 → (b ≡ true) × (x .number ≡ 0)
 held true x k r e = (refl, e)
-held false x k r e = let z : suc k ≡ 0 = ap (λ (a : Refusal). a .number) e in absurd (omega arith)
+held false x k r e = let z : suc k ≡ 0 = e in absurd (omega arith)
 
-row-held : (k r : ℕ) (x : Refusal) → cond (eqb k 0) x (answer k r) ≡ answer 0 0 → (k ≡ 0) × (x ≡ answer 0 0)
+row-held : (k r : ℕ) (x : Refusal) → cond (eqb k 0) x (answer k r) .number ≡ 0 → (k ≡ 0) × (x .number ≡ 0)
 row-held zero r x e = (refl, e)
-row-held (suc k) r x e =
-    let z : suc k ≡ 0 = ap (λ (a : Refusal). a .number) (simp (ne-eqb (suc k) 0 (λ q. omega arith)) at e) in absurd (omega arith)
+row-held (suc k) r x e = let z : suc k ≡ 0 = simp (ne-eqb (suc k) 0 (λ q. omega arith)) at e in absurd (omega arith)
 
-rows-held : (t : List ℕ) (m r : ℕ) → rowsFrom m t r ≡ answer 0 0 → ((k : ℕ) → r ≤ k → k < r + m → rowRefusal t k ≡ 0) × (endRight t ≡ true)
+rows-held : (t : List ℕ) (m r : ℕ) → rowsFrom m t r .number ≡ 0 → ((k : ℕ) → r ≤ k → k < r + m → rowRefusal t k ≡ 0) × (endRight t ≡ true)
 unfolding rowsFrom
 rows-held t zero r e = (λ k l h. absurd (omega arith), held (endRight t) (answer 0 0) 8 r e .0)
 rows-held t (suc m) r e =
@@ -72,10 +71,10 @@ rows-held t (suc m) r e =
     let q = rows-held t m (r + 1) (p .1) in
     (λ k l h. ⊎-elim (λ (z : r ≡ k). rw (← z) (p .0)) (λ (z : r < k). q .0 k (omega arith) (omega arith)) (eq-or-lt-of-le l), q .1)
 
--- a table that the check lets pass has passed every test
-pub passing-table-is-right : (t : List ℕ) → tableRefusal t ≡ answer 0 0 → TableRight t
+-- A TABLE WITH THE ANSWER 0 HAS PASSED EVERY TEST
+pub number-0-is-right : (t : List ℕ) → tableRefusal t .number ≡ 0 → TableRight t
 unfolding tableRefusal
-passing-table-is-right t e =
+number-0-is-right t e =
     let p = held (lengthRight t) (rowsFrom (size t) t 0) 0 0 e in
     let q = rows-held t (size t) 0 (p .1) in
     record {
@@ -83,3 +82,21 @@ passing-table-is-right t e =
       row = λ r h. passing-row-is-right t r (q .0 r (omega arith) (omega arith));
       ended = q .1;
     }
+
+pub passing-table-is-right : (t : List ℕ) → tableRefusal t ≡ answer 0 0 → TableRight t
+passing-table-is-right t e = number-0-is-right t (ap (λ (a : Refusal). a .number) e)
+
+pub right-row-passes : (t : List ℕ) (r : ℕ) → RowRight t r → rowRefusal t r ≡ 0
+unfolding rowRefusal
+right-row-passes t r R = rw (R .kind, R .spare, R .code, R .place, R .depth, R .names, R .types)
+
+rows-pass : (t : List ℕ) (m r : ℕ) → ((k : ℕ) → r ≤ k → k < r + m → RowRight t k) → endRight t ≡ true → rowsFrom m t r ≡ answer 0 0
+unfolding rowsFrom
+rows-pass t zero r all e = rw e
+rows-pass t (suc m) r all e =
+    rw (right-row-passes t r (all r (omega arith) (omega arith))) (rows-pass t m (r + 1) (λ k l h. all k (omega arith) (omega arith)) e)
+
+-- A TABLE THAT PASSES EVERY TEST IS NOT REFUSED
+pub right-table-passes : (t : List ℕ) → TableRight t → tableRefusal t ≡ answer 0 0
+unfolding tableRefusal
+right-table-passes t R = rw (R .long) (rows-pass t (size t) 0 (λ k l h. R .row k (omega arith)) (R .ended))
