@@ -1,3 +1,5 @@
 pub mod Orders
 pub mod Places
 pub mod Wired
+pub mod Histories
+pub mod Update

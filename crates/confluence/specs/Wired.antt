@@ -180,7 +180,7 @@ full-not-empty s w = go (getD s (fullPlace w) 0)
     go zero a b = a refl
     go (suc f) a b = let z : _≡_ {A = ℕ} 0 1 = cc in omega arith
 
-same-wire : (w u p q : ℕ) → fullPlace w ≤ p → p ≤ wordPlace w → fullPlace u ≤ q → q ≤ wordPlace u → p ≡ q → u ≡ w
+pub same-wire : (w u p q : ℕ) → fullPlace w ≤ p → p ≤ wordPlace w → fullPlace u ≤ q → q ≤ wordPlace u → p ≡ q → u ≡ w
 same-wire w u p q a b c d e = omega arith
 
 -- What stands between two nodes: how two nodes commute in s, the one leading to a, the other to b.
