@@ -3,3 +3,5 @@ pub mod Places
 pub mod Wired
 pub mod Histories
 pub mod Update
+pub mod Ledger
+pub mod Stage
