@@ -5,3 +5,4 @@ pub mod Histories
 pub mod Update
 pub mod Ledger
 pub mod Stage
+pub mod Runs

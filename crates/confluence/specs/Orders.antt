@@ -5,6 +5,7 @@
 --   Diamond                   two different moves that are both ready may be made in either order
 --   Alike                     what every list of moves has to do with one that comes to rest
 --   orders-rest-alike         a diamond is enough for that
+--   as-many-is-all            a list with as many moves as one that rests has rested
 --
 -- `fire i s` is the state after the move i in s, none where i is not ready. `put i s w` is what that move puts on wire w.
 -- Idea: a move that is ready where a resting list starts is one of its moves, and may be made first. So the moves of any other list are taken
@@ -188,3 +189,15 @@ module _ {S : Type 0} (fire : ℕ → S → Option S) (put : ℕ → S → ℕ �
               → (length other ≡ length order) × (u ≡ t) × ((w : ℕ) → history fire put other s w ≡ history fire put order s w)
           go [] e f m p = (omega arith, fires-end fire u t f, λ w. sym (append-nil _) ∙ ap (λ (l : List ℕ). history fire put other s w ++ l) (sym (history-none fire put u w)) ∙ p w)
           go (i ∷ more) e f m p = let z : _≡_ {A = ℕ} 0 1 = cc in absurd (omega arith)
+
+-- a list with as many moves as the resting one has come to its end
+module _ {S : Type 0} (fire : ℕ → S → Option S) (put : ℕ → S → ℕ → List ℕ) where
+  pub as-many-is-all : (order : List ℕ) (s t : S) (other : List ℕ) (u : S) → Alike fire put order s t other u → length order ≤ length other
+      → (length other ≡ length order) × (u ≡ t)
+  as-many-is-all order s t other u a h =
+      let g = a .goes-on in
+      go (g .0) (g .1) (g .2)
+    where
+      go : (more : List ℕ) → fires fire more u ≡ some t → length other + length more ≡ length order → (length other ≡ length order) × (u ≡ t)
+      go [] f m = (omega arith, fires-end fire u t f)
+      go (i ∷ more) f m = absurd (omega arith)
