@@ -6,3 +6,4 @@ pub mod Update
 pub mod Ledger
 pub mod Stage
 pub mod Runs
+pub mod Graphs
