@@ -10,14 +10,15 @@
 --
 -- Assumes nothing.
 use Prim.Native.Nat.{ℕ, zero, suc, _+_, _*_}
+use mathlib.Core.Path.{_≡_, refl}
 use mathlib.Core.Bool.{Bool, true, false}
 use mathlib.Core.List.{List, [], _∷_, _++_}
 use mathlib.Core.Option.{Option, none, some}
 use lib.Dec.{eqb, ltb}
-use lib.ListN.{getD, take, replicate}
+use lib.ListN.{length, getD, take, replicate}
 use Rattle.word.specs.Words.{pick, flag}
-use Rattle.step.specs.Kinds.{Kind, kindOf, inputs, outputs, outputSort, Input, in0, in1, in2, Output, out0, out1}
-use Rattle.graph.specs.Below.{total, joined}
+use Rattle.step.specs.Kinds.{Kind, kindOf, inputs, outputs, inputSort, outputSort, Input, in0, in1, in2, Output, out0, out1, STREAM, GATE, CARRY, INVARIANT, SPLIT, FORK, DRAIN, OP, PICK}
+use Rattle.graph.specs.Below.{total, joined, length-joined}
 
 -- "X = 4,294,967,295 stands for absent."
 abbrev pub absent : ℕ
@@ -115,6 +116,20 @@ inputAt g i k = inputOf (nodeAt g i) k
 abbrev pub outputAt : List ℕ → ℕ → Output → Option ℕ
 outputAt g i k = outputOf (nodeAt g i) k
 
+-- A column of the table of kinds, for a number that may be no kind: 0 there.
+abbrev pub column : (Kind → ℕ) → Option Kind → ℕ
+column f none = 0
+column f (some κ) = f κ
+
+-- The sort of a place, likewise: the row's own sort where there is no kind.
+abbrev pub inputSortOf : Option Kind → ℕ → Input → ℕ
+inputSortOf none s k = s
+inputSortOf (some κ) s k = inputSort κ s k
+
+abbrev pub outputSortOf : Option Kind → ℕ → ℕ → Output → ℕ
+outputSortOf none c s k = s
+outputSortOf (some κ) c s k = outputSort κ c s k
+
 -- "Starts are wires 0 to S - 1; output numbers follow on from S, node by node."
 abbrev pub outputCount : Option Node → ℕ
 outputCount none = 0
@@ -152,3 +167,25 @@ wireSorts g = replicate (startCount g) 0 ++ joined (λ i. outputSorts (nodeAt g 
 
 abbrev pub sortAt : List ℕ → ℕ → ℕ
 sortAt g w = getD (wireSorts g) w 0
+
+-- ---- laws
+
+-- A node has a sort for each of its outputs.
+kind-sorts : (κ : Kind) (a b : ℕ) → length (take (outputs κ) (a ∷ b ∷ [])) ≡ outputs κ
+kind-sorts STREAM a b = refl
+kind-sorts GATE a b = refl
+kind-sorts CARRY a b = refl
+kind-sorts INVARIANT a b = refl
+kind-sorts SPLIT a b = refl
+kind-sorts FORK a b = refl
+kind-sorts DRAIN a b = refl
+kind-sorts OP a b = refl
+kind-sorts PICK a b = refl
+
+node-sorts : (o : Option Node) → length (outputSorts o) ≡ outputCount o
+node-sorts none = refl
+node-sorts (some nd) = kind-sorts (nd .kind) _ _
+
+pub as-many-sorts-as-outputs : (g : List ℕ) (i : ℕ) → length (joined (λ j. outputSorts (nodeAt g j)) i) ≡ outputsBefore g i
+as-many-sorts-as-outputs g i =
+    length-joined (λ j. outputSorts (nodeAt g j)) (λ j. outputCount (nodeAt g j)) (λ j. node-sorts (nodeAt g j)) i

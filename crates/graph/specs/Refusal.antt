@@ -8,15 +8,17 @@
 --   graphRefusal                  the first of them that fails, else 0
 --
 -- Assumes nothing.
-use Prim.Native.Nat.{ℕ, zero, suc, _+_, _*_}
+use Prim.Native.Nat.{ℕ, zero, suc, _+_, _*_, _≤_, _<_}
+use mathlib.Core.Path.{_≡_}
 use mathlib.Core.Bool.{Bool, true, false, _&&_}
 use mathlib.Core.List.{List, [], _∷_, _++_}
 use mathlib.Core.Option.{Option, none, some}
+use borrow.Author.Tests.{ltb-true, leb-true, eqb-true}
 use lib.Dec.{eqb, ltb, leb}
 use lib.ListN.{getD, length}
 use Rattle.word.specs.Words.{pick}
 use Rattle.step.specs.Kinds.{Kind, inputs, outputs, codes, ownSorts, inputSort, Input, in0, in1, in2}
-use Rattle.graph.specs.Below.{every, times}
+use Rattle.graph.specs.Below.{every, times, every-each, both-true}
 use Rattle.graph.specs.Graph.{absent, nodeCount, wireCount, startCount, resultCount, startKindAt, startWordAt, inputsBefore, resultAt, Node, nodeAt, hasInput, wireOn, firstAt, reads, wireSorts, sortAt}
 
 -- "under 4 words, counts beyond 4,096 / 8,192 / 512 / 512, length not 4 + 2S + R + 7n"
@@ -28,6 +30,15 @@ hasShape g =
     && (leb (startCount g) 512
     && (leb (resultCount g) 512
     && eqb (length g) (4 + 2 * startCount g + resultCount g + 7 * nodeCount g)))))
+
+-- The same as facts, which the readers of the rows rely on.
+pub record Shaped (g : List ℕ) : Type 0 where
+  pub long : 4 ≤ length g
+  pub nodes : nodeCount g ≤ 4096
+  pub wires : wireCount g ≤ 8192
+  pub starts : startCount g ≤ 512
+  pub results : resultCount g ≤ 512
+  pub whole : length g ≡ 4 + 2 * startCount g + resultCount g + 7 * nodeCount g
 
 -- "start row, kind, code or sort wrong, an absent input or output not X, a first output number wrong, or W not S plus all outputs"
 -- A start is 0 and its input number, or 1 and any constant.
@@ -111,3 +122,49 @@ graphRefusal g =
     let wire : ℕ = pick (wiresBelow g) readers 13 in
     let node : ℕ = pick (rowsRight g) wire 12 in
     pick (hasShape g) node 11
+
+-- ---- what each test says
+
+pub shaped : (g : List ℕ) → hasShape g ≡ true → Shaped g
+unfolding hasShape
+shaped g e =
+    let p0 = both-true (leb 4 (length g)) _ e in
+    let p1 = both-true (leb (nodeCount g) 4096) _ (p0 .1) in
+    let p2 = both-true (leb (wireCount g) 8192) _ (p1 .1) in
+    let p3 = both-true (leb (startCount g) 512) _ (p2 .1) in
+    let p4 = both-true (leb (resultCount g) 512) _ (p3 .1) in
+    record {
+      long = leb-true 4 (length g) (p0 .0);
+      nodes = leb-true (nodeCount g) 4096 (p1 .0);
+      wires = leb-true (wireCount g) 8192 (p2 .0);
+      starts = leb-true (startCount g) 512 (p3 .0);
+      results = leb-true (resultCount g) 512 (p4 .0);
+      whole = eqb-true (length g) _ (p4 .1);
+    }
+
+pub start-is-right : (g : List ℕ) → rowsRight g ≡ true → (k : ℕ) → k < startCount g → startRight g k ≡ true
+unfolding rowsRight
+start-is-right g e k h = every-each (startRight g) (startCount g) (both-true (every (startCount g) (startRight g)) _ e .0) k h
+
+pub node-is-right : (g : List ℕ) → rowsRight g ≡ true → (i : ℕ) → i < nodeCount g → nodeRight g i ≡ true
+unfolding rowsRight
+node-is-right g e i h =
+    let p = both-true (every (startCount g) (startRight g)) _ e .1 in
+    every-each (nodeRight g) (nodeCount g) (both-true (every (nodeCount g) (nodeRight g)) _ p .0) i h
+
+pub wires-are-all-outputs : (g : List ℕ) → rowsRight g ≡ true → wireCount g ≡ firstAt g (nodeCount g)
+unfolding rowsRight
+wires-are-all-outputs g e =
+    let p = both-true (every (startCount g) (startRight g)) _ e .1 in
+    eqb-true (wireCount g) (firstAt g (nodeCount g)) (both-true (every (nodeCount g) (nodeRight g)) _ p .1)
+
+pub node-is-below : (g : List ℕ) → wiresBelow g ≡ true → (i : ℕ) → i < nodeCount g → nodeBelow g i ≡ true
+unfolding wiresBelow
+node-is-below g e i h =
+    every-each (nodeBelow g) (nodeCount g) (both-true (every (nodeCount g) (nodeBelow g)) (every (resultCount g) (resultBelow g)) e .0) i h
+
+pub result-is-below : (g : List ℕ) → wiresBelow g ≡ true → (k : ℕ) → k < resultCount g → resultAt g k < wireCount g
+unfolding wiresBelow
+result-is-below g e k h =
+    let all = both-true (every (nodeCount g) (nodeBelow g)) (every (resultCount g) (resultBelow g)) e .1 in
+    ltb-true (resultAt g k) (wireCount g) (every-each (resultBelow g) (resultCount g) all k h)

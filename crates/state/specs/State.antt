@@ -4,13 +4,15 @@
 --   recordAt                  a node's phase and three registers
 --   Stores, stored            words stored at places, one after the other
 --   emptied, filled, kept     the stores that take a token, give one, and leave a record
+--   stored-append, length-stored
 --
 -- Assumes nothing.
 use Prim.Native.Nat.{ℕ, zero, suc, _+_, _*_}
 use mathlib.Core.Bool.{Bool, true, false}
-use mathlib.Core.List.{List, [], _∷_}
+use mathlib.Core.Path.{_≡_, refl, _∙_}
+use mathlib.Core.List.{List, [], _∷_, _++_}
 use mathlib.Core.Option.{Option, none, some}
-use lib.ListN.{getD, set}
+use lib.ListN.{getD, set, length, length-set}
 use Rattle.step.specs.declared.Record.{Record}
 
 -- "per wire full (0 or 1) and word (0 when empty)"
@@ -76,3 +78,13 @@ filled (some w) (some x) = (fullPlace w, 1) ∷ (wordPlace w, x) ∷ []
 abbrev pub kept : ℕ → ℕ → Record → Stores
 kept W i r =
     (recordPlace W i, r .phase) ∷ (recordPlace W i + 1, r .r0) ∷ (recordPlace W i + 2, r .r1) ∷ (recordPlace W i + 3, r .r2) ∷ []
+
+-- ---- laws of stores
+
+pub stored-append : (xs ys : Stores) (s : List ℕ) → stored (xs ++ ys) s ≡ stored ys (stored xs s)
+stored-append [] ys s = refl
+stored-append (x ∷ xs) ys s = stored-append xs ys (set s (x .0) (x .1))
+
+pub length-stored : (xs : Stores) (s : List ℕ) → length (stored xs s) ≡ length s
+length-stored [] s = refl
+length-stored (x ∷ xs) s = length-stored xs (set s (x .0) (x .1)) ∙ length-set s (x .0) (x .1)

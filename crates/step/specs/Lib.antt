@@ -4,3 +4,4 @@ pub mod Machines
 pub mod Shown
 pub mod Locality
 pub mod Kept
+pub mod Facts

@@ -206,7 +206,7 @@ fn carry(seen: Seen, own: Record) -> Firing
     match phase {
         0 => fires(SECOND, some_word(seen.in1.word), NOTHING, in_phase(1)),
         1 => match d {
-            0 => fires(FIRST, NOTHING, NOTHING, REST),
+            0 => fires(FIRST, NOTHING, NOTHING, in_phase(0)),
             _ => fires(FIRST, NOTHING, NOTHING, in_phase(2)),
         },
         2 => fires(THIRD, some_word(seen.in2.word), NOTHING, in_phase(1)),

@@ -1,0 +1,75 @@
+-- `firing::keep` meets its contract. Assumes nothing.
+use native.Mathlib.Omega.{arith}
+use lib.ListN.{length-set}
+use borrow.Author.Needs.{needs}
+use Rattle.firing.proofs.keep.Statement.{statement}
+use Rattle.firing.proofs.keep.Tie as tie
+
+mul-at : tie.Need-mul-at
+mul-at c = search needs
+
+mul-at-2 : tie.Need-mul-at-2
+mul-at-2 c = search needs
+
+add-at : tie.Need-add-at
+add-at c = search needs
+
+mul-state : tie.Need-mul-state
+mul-state c = search needs
+
+slice-write-state : tie.Need-slice-write-state
+slice-write-state c = search needs
+
+add-state : tie.Need-add-state
+add-state c = search needs
+
+mul-state-2 : tie.Need-mul-state-2
+mul-state-2 c = search needs
+
+slice-write-state-2 : tie.Need-slice-write-state-2
+slice-write-state-2 c = simp length-set (omega arith)
+
+add-state-2 : tie.Need-add-state-2
+add-state-2 c = search needs
+
+mul-state-3 : tie.Need-mul-state-3
+mul-state-3 c = search needs
+
+slice-write-state-3 : tie.Need-slice-write-state-3
+slice-write-state-3 c = simp length-set (omega arith)
+
+add-state-3 : tie.Need-add-state-3
+add-state-3 c = search needs
+
+mul-state-4 : tie.Need-mul-state-4
+mul-state-4 c = search needs
+
+slice-write-state-4 : tie.Need-slice-write-state-4
+slice-write-state-4 c = search needs
+
+same-length : tie.Need-same-length
+same-length c = search needs
+
+returns : tie.Need-returns
+returns c = search needs
+
+pub keep-spec : {M : Type 1} → statement M
+keep-spec =
+    tie.close
+    (tie.spec
+    mul-at
+    mul-at-2
+    add-at
+    mul-state
+    slice-write-state
+    add-state
+    mul-state-2
+    slice-write-state-2
+    add-state-2
+    mul-state-3
+    slice-write-state-3
+    add-state-3
+    mul-state-4
+    slice-write-state-4
+    same-length
+    returns)

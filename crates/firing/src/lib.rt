@@ -1,0 +1,132 @@
+// One firing of one node on lent words: the node's view is read from the state, and what the step does is stored back.
+ghost use mathlib.Core.Path.{_≡_};
+ghost use mathlib.Core.Bool.{Bool, true, false};
+ghost use mathlib.Core.Option.{some, none};
+ghost use Prim.Native.Nat.{ℕ, _+_, _*_, _<_, _≤_};
+ghost use lib.ListN.{length, getD, set};
+ghost use Rattle.word.specs.Words.{pick};
+ghost use Rattle.step.specs.Shown.{tokenOf};
+ghost use Rattle.firing.specs.Acted.{actStores, Room};
+ghost use Rattle.state.specs.State.{tokenAt, tokenOn, isEmpty, hasRoom, recordAt, stored, emptied, filled, kept};
+
+// What stands on a wire.
+fn token_at(state: &[u32], wire: usize) -> step::Token
+    requires { ⌜ 2 * wire + 1 < length (now state) ⌝ }
+    ensures token { λ r. ⌜ tokenOf r ≡ tokenAt (now (state .entry)) wire ⌝ }
+{
+    let full = state[2 * wire];
+    let word = state[2 * wire + 1];
+    match full {
+        0 => step::Token { full: false, word },
+        _ => step::Token { full: true, word },
+    }
+}
+
+fn is_empty(state: &[u32], wire: usize) -> bool
+    requires { ⌜ 2 * wire + 1 < length (now state) ⌝ }
+    ensures room { λ r. ⌜ r ≡ isEmpty (getD (now (state .entry)) (2 * wire) 0) ⌝ }
+{
+    let full = state[2 * wire];
+    match full {
+        0 => true,
+        _ => false,
+    }
+}
+
+// The same on a place that the node may not have: there is no token there, and no room.
+fn token_on(state: &[u32], present: bool, wire: usize) -> step::Token
+    requires { ⌜ (present ≡ true → 2 * wire + 1 < length (now state)) ⌝ }
+    ensures token { λ r. ⌜ tokenOf r ≡ tokenOn (now (state .entry)) (pick present (some wire) none) ⌝ }
+{
+    if present {
+        return token_at(state, wire);
+    }
+    step::Token {
+        full: false,
+        word: 0,
+    }
+}
+
+fn room_on(state: &[u32], present: bool, wire: usize) -> bool
+    requires { ⌜ (present ≡ true → 2 * wire + 1 < length (now state)) ⌝ }
+    ensures room { λ r. ⌜ r ≡ hasRoom (now (state .entry)) (pick present (some wire) none) ⌝ }
+{
+    if present {
+        return is_empty(state, wire);
+    }
+    false
+}
+
+fn record_at(state: &[u32], wires: usize, i: usize) -> step::Record
+    requires { ⌜ 2 * wires + 4 * i + 3 < length (now state) ⌝ }
+    ensures record { λ r. ⌜ r ≡ recordAt wires (now (state .entry)) i ⌝ }
+{
+    let at = 2 * wires + 4 * i;
+    step::Record {
+        phase: state[at],
+        r0: state[at + 1],
+        r1: state[at + 2],
+        r2: state[at + 3],
+    }
+}
+
+// A wire whose token is taken holds 0 0, and one that is given a word holds 1 and the word.
+fn put(state: &mut [u32], wire: usize, full: u32, word: u32)
+    requires { ⌜ 2 * wire + 1 < length (now state) ⌝ }
+    ensures state { λ r. ⌜ now (state .exit) ≡ set (set (now (state .entry)) (2 * wire) full) (2 * wire + 1) word ⌝ }
+{
+    state[2 * wire] = full;
+    state[2 * wire + 1] = word;
+}
+
+fn take_if(state: &mut [u32], taken: bool, wire: usize)
+    requires { ⌜ (taken ≡ true → 2 * wire + 1 < length (now state)) ⌝ }
+    ensures state { λ r. ⌜ now (state .exit) ≡ stored (emptied (some wire) taken) (now (state .entry)) ⌝ }
+{
+    if taken {
+        put(state, wire, 0, 0);
+    }
+}
+
+fn give_if(state: &mut [u32], given: step::Token, wire: usize)
+    requires { ⌜ (given .full ≡ true → 2 * wire + 1 < length (now state)) ⌝ }
+    ensures state { λ r. ⌜ now (state .exit) ≡ stored (filled (some wire) (tokenOf given)) (now (state .entry)) ⌝ }
+{
+    if given.full {
+        put(state, wire, 1, given.word);
+    }
+}
+
+fn keep(state: &mut [u32], wires: usize, i: usize, left: step::Record)
+    requires { ⌜ 2 * wires + 4 * i + 3 < length (now state) ⌝ }
+    ensures state { λ r. ⌜ now (state .exit) ≡ stored (kept wires i left) (now (state .entry)) ⌝ }
+{
+    let at = 2 * wires + 4 * i;
+    state[at] = left.phase;
+    state[at + 1] = left.r0;
+    state[at + 2] = left.r1;
+    state[at + 3] = left.r2;
+}
+
+// All that a firing does: three inputs, two outputs, the record.
+fn act(
+    state: &mut [u32],
+    done: step::Act,
+    w0: usize,
+    w1: usize,
+    w2: usize,
+    first: usize,
+    wires: usize,
+    i: usize,
+)
+    requires { ⌜ Room done w0 w1 w2 first wires i (length (now state)) ⌝ }
+    ensures state { λ r. ⌜ now (state .exit) ≡ stored (actStores done w0 w1 w2 first wires i) (now (state .entry)) ⌝ }
+{
+    let takes = done.takes;
+    take_if(state, takes.in0, w0);
+    take_if(state, takes.in1, w1);
+    take_if(state, takes.in2, w2);
+    give_if(state, done.gives0, first);
+    give_if(state, done.gives1, first + 1);
+    keep(state, wires, i, done.next);
+}

@@ -1,0 +1,81 @@
+-- Document 01, 'Register of cases': P1 to P9 as one table with one statement, about the written rules themselves.
+--
+--   register              the cases: what the rules give, and what the paper prints
+--   register-holds        each case comes out as printed
+--
+-- A machine's case shows the words given on each output, then that nothing is left on its inputs and that it is in its first phase with
+-- empty registers. Letters are written A = 1 to H = 8, T = 1 and F = 0.
+-- Assumes nothing.
+use Prim.Native.Nat.{ℕ, _+_, _*_}
+use mathlib.Core.Path.{_≡_, refl}
+use mathlib.Core.List.{List, [], _∷_}
+use Rattle.word.specs.Words.{condition, update}
+use Rattle.step.specs.Kinds.{STREAM, GATE, CARRY, INVARIANT}
+use Rattle.step.specs.Machines.{step}
+use Rattle.register.specs.Drive.{drive, start, shown}
+
+-- what the rules give, and what is printed
+pub record Case : Type 0 where
+  pub given : List (List ℕ)
+  pub printed : List (List ℕ)
+
+-- a machine that has given these words and is at rest, with nothing left
+abbrev rests : List ℕ → List ℕ → List (List ℕ)
+rests out0 out1 = out0 ∷ out1 ∷ [] ∷ [] ∷ [] ∷ (0 ∷ 0 ∷ 0 ∷ 0 ∷ []) ∷ []
+
+-- more firings than any case here makes
+abbrev most : ℕ
+most = 40
+
+abbrev streams : ℕ → ℕ → ℕ → ℕ → ℕ → List (List ℕ)
+streams s t b u c = shown (drive STREAM (5 * u + c) most (start (s ∷ []) (t ∷ []) (b ∷ [])))
+
+abbrev T : ℕ
+T = 1
+
+abbrev F : ℕ
+F = 0
+
+abbrev pub register : List Case
+register =
+    -- P1 (0, 1, 5, `+=`, `<`): 0..5, TTTTTF
+    record { given = streams 0 1 5 0 0; printed = rests (0 ∷ 1 ∷ 2 ∷ 3 ∷ 4 ∷ 5 ∷ []) (T ∷ T ∷ T ∷ T ∷ T ∷ F ∷ []) }
+    -- P2 (3, 1, 3, `+=`, `<`): 3, F
+    ∷ record { given = streams 3 1 3 0 0; printed = rests (3 ∷ []) (F ∷ []) }
+    -- P3 (16, 1, 1, `>>=`, `!=`): 16 8 4 2 1, TTTTF
+    ∷ record { given = streams 16 1 1 5 4; printed = rests (16 ∷ 8 ∷ 4 ∷ 2 ∷ 1 ∷ []) (T ∷ T ∷ T ∷ T ∷ F ∷ []) }
+    -- P4 (1, 1, 8, `<<=`, `<=`): 1 2 4 8 16, TTTTF
+    ∷ record { given = streams 1 1 8 4 1; printed = rests (1 ∷ 2 ∷ 4 ∷ 8 ∷ 16 ∷ []) (T ∷ T ∷ T ∷ T ∷ F ∷ []) }
+    -- P5 (1, 32, 0, `<<=`, `!=`): 1 0, TF
+    ∷ record { given = streams 1 32 0 4 4; printed = rests (1 ∷ 0 ∷ []) (T ∷ F ∷ []) }
+    -- P6 (4294967294, 1, 2, `+=`, `<`): 4294967294, F
+    ∷ record { given = streams 4294967294 1 2 0 0; printed = rests (4294967294 ∷ []) (F ∷ []) }
+    -- P7 gate ABCDE, TTTTF: ABCD, TTTF
+    ∷ record {
+      given = shown (drive GATE 0 most (start (1 ∷ 2 ∷ 3 ∷ 4 ∷ 5 ∷ []) (T ∷ T ∷ T ∷ T ∷ F ∷ []) []));
+      printed = rests (1 ∷ 2 ∷ 3 ∷ 4 ∷ []) (T ∷ T ∷ T ∷ F ∷ []);
+    }
+    -- P8 carry a AB, b CDEFGH, d TTFTTTTF: ACDBEFGH
+    ∷ record {
+      given = shown (drive CARRY 0 most (start (T ∷ T ∷ F ∷ T ∷ T ∷ T ∷ T ∷ F ∷ []) (1 ∷ 2 ∷ []) (3 ∷ 4 ∷ 5 ∷ 6 ∷ 7 ∷ 8 ∷ [])));
+      printed = rests (1 ∷ 3 ∷ 4 ∷ 2 ∷ 5 ∷ 6 ∷ 7 ∷ 8 ∷ []) [];
+    }
+    -- P9 invariant, same a and d: AAABBBBB
+    ∷ record {
+      given = shown (drive INVARIANT 0 most (start (T ∷ T ∷ F ∷ T ∷ T ∷ T ∷ T ∷ F ∷ []) (1 ∷ 2 ∷ []) []));
+      printed = rests (1 ∷ 1 ∷ 1 ∷ 2 ∷ 2 ∷ 2 ∷ 2 ∷ 2 ∷ []) [];
+    }
+    ∷ []
+
+abbrev pub givens : List Case → List (List (List ℕ))
+givens [] = []
+givens (c ∷ cs) = c .given ∷ givens cs
+
+abbrev pub printeds : List Case → List (List (List ℕ))
+printeds [] = []
+printeds (c ∷ cs) = c .printed ∷ printeds cs
+
+-- THE STATEMENT
+pub register-holds : givens register ≡ printeds register
+unfolding drive step condition update
+register-holds = refl

@@ -1,0 +1,1 @@
+// The register's proved cases stand in specs/. Other cases are run by a program.
