@@ -10,18 +10,18 @@
 -- Assumes nothing.
 use mathlib.Core.Path.{_≡_, refl, sym, ap, _∙_, subst}
 use mathlib.Core.Logic.{_≢_}
-use mathlib.Core.Bool.{Bool, true, false, not, _&&_}
+use mathlib.Core.Bool.{Bool, true, false, not}
 use mathlib.Core.Option.{Option, none, some}
 use mathlib.Core.List.{List}
 use Prim.Native.Nat.{ℕ, zero, suc, _+_, _≤_, _<_}
 use native.Mathlib.Omega.{arith}
-use native.Mathlib.Decide.{ℕ-discrete, decLt}
+use native.Mathlib.Decide.{decLt}
 use borrow.Author.Tests.{le-ltb}
 use lib.Dec.{ltb}
 use Rattle.word.specs.Words.{pick}
 use Rattle.step.specs.Firing.{View, Effect}
 use Rattle.step.specs.Locality.{Local, step-is-local, nothing-is-local}
-use Rattle.graph.specs.Below.{everyFrom, every}
+use Rattle.graph.specs.Below.{everyFrom, every, every-each}
 use Rattle.graph.specs.Graph.{Node, nodeAt, rowAt, rowPlace, nodeCount}
 use Rattle.state.specs.Net.{Net, view, effectAt, after, fire, isReady, stepAt, netOf}
 use Rattle.state.specs.Run.{SPENT, COMPLETE, ZERO-STEP, STRANDED, anyReady, complete, zeroStep, Outcome, outcome}
@@ -54,17 +54,6 @@ ready-is-a-node g i s e h =
 
 -- ---- at rest
 
-both : (a b : Bool) → a && b ≡ true → (a ≡ true) × (b ≡ true)
-both true b h = (refl, h)
-both false b h = let z : _≡_ {A = ℕ} 0 1 = cc in absurd (omega arith)
-
-each-of : (m from : ℕ) (test : ℕ → Bool) → everyFrom m from test ≡ true → (i : ℕ) → from ≤ i → i < from + m → test i ≡ true
-unfolding everyFrom
-each-of zero from test h i lo hi = absurd (omega arith)
-each-of (suc m) from test h i lo hi =
-    let x = both (test from) (everyFrom m (from + 1) test) h in
-    elim (ℕ-discrete i from) [ yes e ↦ ap test e ∙ x .0 | no n ↦ each-of m (from + 1) test (x .1) i (omega arith) (omega arith) ]
-
 of-each : (m from : ℕ) (test : ℕ → Bool) → ((i : ℕ) → test i ≡ true) → everyFrom m from test ≡ true
 unfolding everyFrom
 of-each zero from test h = refl
@@ -78,7 +67,7 @@ pub rests-if-none-ready : (g s : List ℕ) → anyReady (netOf g) (nodeCount g) 
 unfolding anyReady
 rests-if-none-ready g s h i =
     elim (decLt i (nodeCount g)) [
-      | yes b ↦ not-ready (fire (netOf g) i s) (each-of (nodeCount g) 0 (λ j. not (isReady (fire (netOf g) j s))) all i (omega arith) (omega arith))
+      | yes b ↦ not-ready (fire (netOf g) i s) (every-each (λ j. not (isReady (fire (netOf g) j s))) (nodeCount g) all i b)
       | no n ↦ none-past-last g i s (omega arith)
     ]
   where
@@ -96,22 +85,26 @@ none-ready-if-rests g s h =
 
 -- ---- the answer
 
--- SPENT if the first holds; else an answer that is not SPENT
-answer-of : (r c z : Bool) (node : ℕ)
-    → let o : Outcome = pick r (record { answer = SPENT; node = 0 }) (pick c (record { answer = COMPLETE; node = 0 }) (pick z (record { answer = ZERO-STEP; node = node }) (record { answer = STRANDED; node = 0 }))) in
-    (o .answer ≡ SPENT → r ≡ true) × (r ≡ true → o .answer ≡ SPENT)
-answer-of true c z node = (λ h. refl, λ h. refl)
-answer-of false true z node = (λ h. absurd (omega arith), λ h. let y : _≡_ {A = ℕ} 0 1 = cc in absurd (omega arith))
-answer-of false false true node = (λ h. absurd (omega arith), λ h. let y : _≡_ {A = ℕ} 0 1 = cc in absurd (omega arith))
-answer-of false false false node = (λ h. absurd (omega arith), λ h. let y : _≡_ {A = ℕ} 0 1 = cc in absurd (omega arith))
+-- the answer by its three tests
+abbrev answered : Bool → Bool → Bool → ℕ → Outcome
+answered r c z node =
+    pick r (record { answer = SPENT; node = 0 })
+    (pick c (record { answer = COMPLETE; node = 0 })
+    (pick z (record { answer = ZERO-STEP; node = node }) (record { answer = STRANDED; node = 0 })))
+
+spent-means : (r c z : Bool) (node : ℕ) → answered r c z node .answer ≡ SPENT → r ≡ true
+spent-means true c z node h = refl
+spent-means false true z node h = absurd (omega arith)
+spent-means false false true node h = absurd (omega arith)
+spent-means false false false node h = absurd (omega arith)
 
 pub ready-if-spent : (g s : List ℕ) → outcome g s .answer ≡ SPENT → anyReady (netOf g) (nodeCount g) s ≡ true
 unfolding outcome
-ready-if-spent g s = answer-of (anyReady (netOf g) (nodeCount g) s) (complete g s) (ltb (zeroStep g s) (nodeCount g)) (zeroStep g s) .0
+ready-if-spent g s = spent-means (anyReady (netOf g) (nodeCount g) s) (complete g s) (ltb (zeroStep g s) (nodeCount g)) (zeroStep g s)
 
 pub spent-if-ready : (g s : List ℕ) → anyReady (netOf g) (nodeCount g) s ≡ true → outcome g s .answer ≡ SPENT
 unfolding outcome
-spent-if-ready g s = answer-of (anyReady (netOf g) (nodeCount g) s) (complete g s) (ltb (zeroStep g s) (nodeCount g)) (zeroStep g s) .1
+spent-if-ready g s h = rw h
 
 -- an answer that is not SPENT is given at rest, and at rest only
 pub rests-unless-spent : (g s : List ℕ) → outcome g s .answer ≢ SPENT → Rests (fire (netOf g)) s

@@ -21,7 +21,7 @@ use Rattle.step.specs.Kinds.{Input, in0, in1, in2, Output, out0, out1}
 use Rattle.step.specs.Firing.{View, Effect, takes, gives}
 use Rattle.step.specs.Locality.{Local}
 use Rattle.step.specs.declared.Record.{Record}
-use Rattle.state.specs.State.{fullPlace, wordPlace, recordPlace, recordAt, stored, emptied, filled}
+use Rattle.state.specs.State.{fullPlace, wordPlace, recordPlace, recordAt, stored, emptied, filled, kept}
 use Rattle.state.specs.Net.{Net, effectAt, stores}
 use Rattle.confluence.specs.Places.{Each, each-map, Off, stored-other, stored-value}
 use Rattle.confluence.specs.Wired.{Wired, Store, taken, given, left, each-store, part-taken, part-given, part-left, same-wire, taken-not-given}
@@ -53,30 +53,36 @@ module _ (w : ℕ) where
   gives-or-not (some u) none = inr (λ x h t. let z : _≡_ {A = ℕ} 0 1 = cc in omega arith)
   gives-or-not (some u) (some y) = elim (ℕ-discrete u w) [ yes e ↦ inl (y, ap some e, refl) | no n ↦ inr (λ x h t. n (some-same u h)) ]
 
-pub touch : (N : Net) (i : ℕ) (e : Effect) (w : ℕ) → Touch N i e w
-touch N i e w = in-turn (takes-or-not w (N .input i in0) (e .takes0)) (takes-or-not w (N .input i in1) (e .takes1)) (takes-or-not w (N .input i in2) (e .takes2)) (gives-or-not w (N .output i out0) (e .gives0)) (gives-or-not w (N .output i out1) (e .gives1))
-  where
-    in-turn : ((N .input i in0 ≡ some w) × (e .takes0 ≡ true)) ⊎ (N .input i in0 ≡ some w → e .takes0 ≡ true → ⊥)
-        → ((N .input i in1 ≡ some w) × (e .takes1 ≡ true)) ⊎ (N .input i in1 ≡ some w → e .takes1 ≡ true → ⊥)
-        → ((N .input i in2 ≡ some w) × (e .takes2 ≡ true)) ⊎ (N .input i in2 ≡ some w → e .takes2 ≡ true → ⊥)
-        → ((x : ℕ) × (N .output i out0 ≡ some w) × (e .gives0 ≡ some x)) ⊎ ((x : ℕ) → N .output i out0 ≡ some w → e .gives0 ≡ some x → ⊥)
-        → ((x : ℕ) × (N .output i out1 ≡ some w) × (e .gives1 ≡ some x)) ⊎ ((x : ℕ) → N .output i out1 ≡ some w → e .gives1 ≡ some x → ⊥)
-        → Touch N i e w
-    in-turn (inl a) b c f g = takes-it in0 (a .0) (a .1)
-    in-turn (inr a) (inl b) c f g = takes-it in1 (b .0) (b .1)
-    in-turn (inr a) (inr b) (inl c) f g = takes-it in2 (c .0) (c .1)
-    in-turn (inr a) (inr b) (inr c) (inl f) g = gives-it out0 (f .0) (f .1) (f .2)
-    in-turn (inr a) (inr b) (inr c) (inr f) (inl g) = gives-it out1 (g .0) (g .1) (g .2)
-    in-turn (inr a) (inr b) (inr c) (inr f) (inr g) = leaves-it (record { not-taken = no-input; not-given = no-output })
-      where
-        no-input : (k : Input) → N .input i k ≡ some w → takes e k ≡ true → ⊥
-        no-input in0 = a
-        no-input in1 = b
-        no-input in2 = c
+by-input : (P : Input → Type 0) → P in0 → P in1 → P in2 → (k : Input) → P k
+by-input P a b c in0 = a
+by-input P a b c in1 = b
+by-input P a b c in2 = c
 
-        no-output : (k : Output) (x : ℕ) → N .output i k ≡ some w → gives e k ≡ some x → ⊥
-        no-output out0 = f
-        no-output out1 = g
+by-output : (P : Output → Type 0) → P out0 → P out1 → (k : Output) → P k
+by-output P a b out0 = a
+by-output P a b out1 = b
+
+pub touch : (N : Net) (i : ℕ) (e : Effect) (w : ℕ) → Touch N i e w
+touch N i e w =
+    elim (takes-or-not w (N .input i in0) (e .takes0)) [
+      | inl a ↦ takes-it in0 (a .0) (a .1)
+      | inr a ↦ elim (takes-or-not w (N .input i in1) (e .takes1)) [
+        | inl b ↦ takes-it in1 (b .0) (b .1)
+        | inr b ↦ elim (takes-or-not w (N .input i in2) (e .takes2)) [
+          | inl c ↦ takes-it in2 (c .0) (c .1)
+          | inr c ↦ elim (gives-or-not w (N .output i out0) (e .gives0)) [
+            | inl f ↦ gives-it out0 (f .0) (f .1) (f .2)
+            | inr f ↦ elim (gives-or-not w (N .output i out1) (e .gives1)) [
+              | inl g ↦ gives-it out1 (g .0) (g .1) (g .2)
+              | inr g ↦ leaves-it (record {
+                not-taken = by-input (λ k. N .input i k ≡ some w → takes e k ≡ true → ⊥) a b c;
+                not-given = by-output (λ k. (x : ℕ) → N .output i k ≡ some w → gives e k ≡ some x → ⊥) f g;
+              })
+            ]
+          ]
+        ]
+      ]
+    ]
 
 module _ (N : Net) (local : (i : ℕ) → Local (N .node i)) (wired : Wired N) (i : ℕ) (s : List ℕ) (e : Effect) (ready : effectAt N i s ≡ some e) where
   abbrev end : List ℕ
@@ -162,12 +168,18 @@ module _ (N : Net) (local : (i : ℕ) → Local (N .node i)) (wired : Wired N) (
   only-left p v lo last q y (given l z r b f c d v′ v″) h = let below = wired .output-below i l z b in absurd (omega arith)
   only-left p v lo last q y (left c d v0 v1 v2 v3) h = last y (λ g. v0 (h ∙ g)) (λ g. v1 (h ∙ g)) (λ g. v2 (h ∙ g)) (λ g. v3 (h ∙ g))
 
+  -- the record's word at p, which is stored there
+  left-word : (p v : ℕ) → own ≤ p → p < length s
+      → ((y : ℕ) → (p ≡ own → y ≡ e .next .phase) → (p ≡ own + 1 → y ≡ e .next .r0) → (p ≡ own + 2 → y ≡ e .next .r1) → (p ≡ own + 3 → y ≡ e .next .r2) → y ≡ v)
+      → (Off p (kept (N .wires) i (e .next)) → ⊥) → getD end p 0 ≡ v
+  left-word p v lo inside last hit = holds p v inside (only-left p v lo last) (λ off. hit (part-left N i e (λ q y. p ≢ q) off))
+
   pub left-after : own + 4 ≤ length s → recordAt (N .wires) end i ≡ e .next
   left-after long =
-      let p0 = holds own (e .next .phase) (omega arith) (only-left own (e .next .phase) (omega arith) (λ y a b c d. a refl)) (λ off. part-left N i e (λ q y. own ≢ q) off .0 refl) in
-      let p1 = holds (own + 1) (e .next .r0) (omega arith) (only-left (own + 1) (e .next .r0) (omega arith) (λ y a b c d. b refl)) (λ off. part-left N i e (λ q y. own + 1 ≢ q) off .1 .0 refl) in
-      let p2 = holds (own + 2) (e .next .r1) (omega arith) (only-left (own + 2) (e .next .r1) (omega arith) (λ y a b c d. c refl)) (λ off. part-left N i e (λ q y. own + 2 ≢ q) off .1 .1 .0 refl) in
-      let p3 = holds (own + 3) (e .next .r2) (omega arith) (only-left (own + 3) (e .next .r2) (omega arith) (λ y a b c d. d refl)) (λ off. part-left N i e (λ q y. own + 3 ≢ q) off .1 .1 .1 .0 refl) in
+      let p0 = left-word own (e .next .phase) (omega arith) (omega arith) (λ y a b c d. a refl) (λ off. off .0 refl) in
+      let p1 = left-word (own + 1) (e .next .r0) (omega arith) (omega arith) (λ y a b c d. b refl) (λ off. off .1 .0 refl) in
+      let p2 = left-word (own + 2) (e .next .r1) (omega arith) (omega arith) (λ y a b c d. c refl) (λ off. off .1 .1 .0 refl) in
+      let p3 = left-word (own + 3) (e .next .r2) (omega arith) (omega arith) (λ y a b c d. d refl) (λ off. off .1 .1 .1 .0 refl) in
       λ d. record { phase = p0 d; r0 = p1 d; r1 = p2 d; r2 = p3 d }
 
   pub own-after : (j : ℕ) → j ≢ i → recordAt (N .wires) end j ≡ recordAt (N .wires) s j
