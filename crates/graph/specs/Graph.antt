@@ -182,7 +182,7 @@ kind-sorts DRAIN a b = refl
 kind-sorts OP a b = refl
 kind-sorts PICK a b = refl
 
-node-sorts : (o : Option Node) → length (outputSorts o) ≡ outputCount o
+pub node-sorts : (o : Option Node) → length (outputSorts o) ≡ outputCount o
 node-sorts none = refl
 node-sorts (some nd) = kind-sorts (nd .kind) _ _
 
