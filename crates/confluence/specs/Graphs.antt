@@ -1,6 +1,7 @@
--- A graph's words as a net: its nodes are local, its numbers end at n, and what an answer says of the state.
+-- A graph's words as a net: its nodes are local, it is wired, its numbers end at n, and what an answer says of the state.
 --
 --   nodes-are-local                               every node of every graph is local
+--   accepted-is-wired                             of an accepted graph each wire has one reader and one writer
 --   none-past-last                                no node past the last is ready
 --   ready-is-a-node                               a ready node is one of the graph's
 --   rests-if-none-ready, none-ready-if-rests      `anyReady` says exactly whether a state is at rest
@@ -23,9 +24,13 @@ use Rattle.step.specs.Firing.{View, Effect}
 use Rattle.step.specs.Locality.{Local, step-is-local, nothing-is-local}
 use Rattle.graph.specs.Below.{everyFrom, every, every-each}
 use Rattle.graph.specs.Graph.{Node, nodeAt, rowAt, rowPlace, nodeCount}
+use Rattle.graph.specs.Refusal.{graphRefusal}
+use Rattle.graph.specs.Accepted.{accepted}
+use Rattle.graph.specs.Wiring.{one-reader, one-writer, input-below, output-below}
 use Rattle.state.specs.Net.{Net, view, effectAt, after, fire, isReady, stepAt, netOf}
 use Rattle.state.specs.Run.{SPENT, COMPLETE, ZERO-STEP, STRANDED, anyReady, complete, zeroStep, Outcome, outcome}
 use Rattle.confluence.specs.Orders.{Rests}
+use Rattle.confluence.specs.Wired.{Wired}
 
 pub nodes-are-local : (g : List ℕ) (i : ℕ) → Local (netOf g .node i)
 nodes-are-local g i = by-row (nodeAt g i)
@@ -33,6 +38,11 @@ nodes-are-local g i = by-row (nodeAt g i)
     by-row : (o : Option Node) → Local (λ v. stepAt o v)
     by-row none = nothing-is-local
     by-row (some nd) = step-is-local (nd .kind) (nd .code)
+
+pub accepted-is-wired : (g : List ℕ) → graphRefusal g ≡ 0 → Wired (netOf g)
+accepted-is-wired g h =
+    let a = accepted g h in
+    record { one-reader = one-reader g a; one-writer = one-writer g a; input-below = input-below g a; output-below = output-below g a }
 
 no-row : (g : List ℕ) (i : ℕ) → nodeCount g ≤ i → nodeAt g i ≡ none
 unfolding nodeAt

@@ -7,3 +7,5 @@ pub mod Ledger
 pub mod Stage
 pub mod Runs
 pub mod Graphs
+pub mod Statements
+pub mod NotIdle
