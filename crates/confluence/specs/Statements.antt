@@ -1,7 +1,7 @@
 -- Any order, one end. Token graphs are fired in an order that nobody knows; these theorems say that the order does not matter.
 -- All speak of the very words that a caller lends: `g` is a graph's words, `s`, `t`, `u` are states' words, and a firing is `fire (netOf g)`.
 --
---   commute                   two different ready nodes may fire in either order
+--   graph-nodes-commute       two different ready nodes may fire in either order
 --   every-order-rests-alike   if some order rests, all do, after as many firings, in the same words, with the same words on every wire
 --   none-rests-at-fewer       if some list of ready firings is longer than F, none rests after F
 --   none-rests-without-bound  if there is no bound on their lengths, none rests
@@ -22,6 +22,8 @@
 -- No theorem asks for a legal state: what a firing does is fixed on any words, and the words of two ready nodes lie apart on any words. Where a
 -- theorem says what stands somewhere afterwards, the state must be long enough to have that place.
 --
+-- For any net of local nodes, another edition's or two graphs side by side: ready-nodes-commute (Wired), net-rests-alike (Histories), ledger
+-- (Ledger), stage (Stage), and the theorems of Runs.
 -- That none of this is idle is shown in NotIdle: a loaded graph on which these theorems speak of 58 firings.
 -- Assumes nothing.
 use mathlib.Core.Path.{_≡_, refl, sym, ap, _∙_, subst}
@@ -70,8 +72,8 @@ abbrev pub runOf : List ℕ → List ℕ → List ℕ → ℕ → At
 runOf g list s allowance = run (netOf g) (nodeCount g) list (from s allowance)
 
 module _ (g : List ℕ) (accepted : graphRefusal g ≡ 0) where
-  pub commute : (i j : ℕ) (s a b : List ℕ) → i ≢ j → fire (netOf g) i s ≡ some a → fire (netOf g) j s ≡ some b → Commute (netOf g) i j s a b
-  commute = ready-nodes-commute (netOf g) (nodes-are-local g) (accepted-is-wired g accepted)
+  pub graph-nodes-commute : (i j : ℕ) (s a b : List ℕ) → i ≢ j → fire (netOf g) i s ≡ some a → fire (netOf g) j s ≡ some b → Commute (netOf g) i j s a b
+  graph-nodes-commute = ready-nodes-commute (netOf g) (nodes-are-local g) (accepted-is-wired g accepted)
 
   alike : (order s t : List ℕ) → Fires g order s t → AtRest g t → (other u : List ℕ) → Fires g other s u → Alike (fire (netOf g)) (putAt (netOf g)) order s t other u
   alike = net-rests-alike (netOf g) (nodes-are-local g) (accepted-is-wired g accepted)
