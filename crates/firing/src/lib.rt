@@ -1,12 +1,16 @@
 // One firing of one node on lent words: the node's view is read from the state, and what the step does is stored back.
+// Callers have checked the graph, and the state's length.
 ghost use mathlib.Core.Path.{_≡_};
 ghost use mathlib.Core.Bool.{Bool, true, false};
 ghost use mathlib.Core.Option.{some, none};
 ghost use Prim.Native.Nat.{ℕ, _+_, _*_, _<_, _≤_};
 ghost use lib.ListN.{length, getD, set};
 ghost use Rattle.word.specs.Words.{pick};
-ghost use Rattle.step.specs.Shown.{tokenOf};
-ghost use Rattle.firing.specs.Acted.{actStores, Room};
+ghost use Rattle.step.specs.Shown.{tokenOf, shown};
+ghost use Rattle.graph.specs.Graph.{nodeCount};
+ghost use Rattle.graph.specs.Refusal.{Shaped};
+ghost use Rattle.state.specs.Net.{effectAt, fire, isReady, orElse, netOf};
+ghost use Rattle.firing.specs.Acted.{actStores, Room, Reads, Within, Sees, Placed};
 ghost use Rattle.state.specs.State.{tokenAt, tokenOn, isEmpty, hasRoom, recordAt, stored, emptied, filled, kept};
 
 // What stands on a wire.
@@ -57,7 +61,7 @@ fn room_on(state: &[u32], present: bool, wire: usize) -> bool
     false
 }
 
-fn record_at(state: &[u32], wires: usize, i: usize) -> step::Record
+pub fn record_at(state: &[u32], wires: usize, i: usize) -> step::Record
     requires { ⌜ 2 * wires + 4 * i + 3 < length (now state) ⌝ }
     ensures record { λ r. ⌜ r ≡ recordAt wires (now (state .entry)) i ⌝ }
 {
@@ -129,4 +133,111 @@ fn act(
     give_if(state, done.gives0, first);
     give_if(state, done.gives1, first + 1);
     keep(state, wires, i, done.next);
+}
+
+// A node's row, read once: the numbers of its wires, and how many places its kind has.
+pub struct Row {
+    pub kind: u32,
+    pub code: u32,
+    pub sort: u32,
+    pub inputs: u32,
+    pub outputs: u32,
+    pub wire0: usize,
+    pub wire1: usize,
+    pub wire2: usize,
+    pub first: usize,
+}
+
+pub fn row_of(graph: &[u32], i: usize) -> Row
+    requires { ⌜ Shaped (now graph) × (i < nodeCount (now graph)) ⌝ }
+    ensures row { λ r. ⌜ Reads (now (graph .entry)) i r ⌝ }
+{
+    let at = graph::row_place(graph, i);
+    let kind = graph[at];
+    let inputs = graph::inputs_of(kind);
+    let outputs = graph::outputs_of(kind);
+    let wire0 = graph::wide(graph[at + 3]);
+    let wire1 = graph::wide(graph[at + 4]);
+    let wire2 = graph::wide(graph[at + 5]);
+    let first = graph::wide(graph[at + 6]);
+    Row {
+        kind,
+        code: graph[at + 1],
+        sort: graph[at + 2],
+        inputs,
+        outputs,
+        wire0,
+        wire1,
+        wire2,
+        first,
+    }
+}
+
+// What the node sees.
+fn see(state: &[u32], row: Row) -> step::Seen
+    requires { ⌜ Within row (length (now state)) ⌝ }
+    ensures seen { λ r. ⌜ Sees (now (state .entry)) row r ⌝ }
+{
+    let in0 = token_on(state, 0 < row.inputs, row.wire0);
+    let in1 = token_on(state, 1 < row.inputs, row.wire1);
+    let in2 = token_on(state, 2 < row.inputs, row.wire2);
+    let room0 = room_on(state, 0 < row.outputs, row.first);
+    let room1 = room_on(state, 1 < row.outputs, row.first + 1);
+    step::Seen {
+        in0,
+        in1,
+        in2,
+        room0,
+        room1,
+    }
+}
+
+// What the node would do now.
+fn look(graph: &[u32], state: &[u32], row: Row, i: usize) -> step::Firing
+    requires { ⌜ Placed (now graph) i (length (now state)) × Reads (now graph) i row ⌝ }
+    ensures effect { λ r. ⌜ shown r ≡ effectAt (netOf (now (graph .entry))) i (now (state .entry)) ⌝ }
+{
+    let wires = graph::wide(graph[1]);
+    let seen = see(state, row);
+    let own = record_at(state, wires, i);
+    step::step(row.kind, row.code, seen, own)
+}
+
+// Whether node i is ready.
+pub fn node_ready(graph: &[u32], state: &[u32], i: usize) -> bool
+    requires { ⌜ Placed (now graph) i (length (now state)) ⌝ }
+    ensures ready { λ r. ⌜ r ≡ isReady (fire (netOf (now (graph .entry))) i (now (state .entry))) ⌝ }
+{
+    let row = row_of(graph, i);
+    let firing = look(graph, state, row, i);
+    match firing {
+        step::Firing::NotReady => false,
+        step::Firing::Fires(_) => true,
+    }
+}
+
+// Whether node i was ready; if so it has fired, else nothing has changed.
+pub fn fire_node(graph: &[u32], state: &mut [u32], i: usize) -> bool
+    requires { ⌜ Placed (now graph) i (length (now state)) ⌝ }
+    ensures fired { λ r. ⌜ (r ≡ isReady (fire (netOf (now (graph .entry))) i (now (state .entry)))) × (now (state .exit) ≡ orElse (fire (netOf (now (graph .entry))) i (now (state .entry))) (now (state .entry))) ⌝ }
+{
+    let row = row_of(graph, i);
+    let wires = graph::wide(graph[1]);
+    let firing = look(graph, state, row, i);
+    match firing {
+        step::Firing::NotReady => false,
+        step::Firing::Fires(done) => {
+            act(
+                state,
+                done,
+                row.wire0,
+                row.wire1,
+                row.wire2,
+                row.first,
+                wires,
+                i,
+            );
+            true
+        }
+    }
 }

@@ -12,6 +12,7 @@ use mathlib.Core.Option.{Option, none, some}
 use lib.Dec.{eqb}
 use lib.ListN.{getD, length}
 use Rattle.word.specs.Words.{pick}
+use Rattle.step.specs.Kinds.{Kind}
 use Rattle.step.specs.Kept.{fits, legalRecord}
 use Rattle.step.specs.declared.Record.{Record}
 use Rattle.graph.specs.Below.{every}
@@ -31,6 +32,11 @@ legalToken sort full word = pick (eqb full 0) (eqb word 0) (eqb full 1 && fits s
 
 unfoldable pub legalWire : List ℕ → List ℕ → ℕ → Bool
 legalWire g s w = legalToken (sortAt g w) (getD s (fullPlace w) 0) (getD s (wordPlace w) 0)
+
+-- What is no node has no rule.
+abbrev pub legalKind : Option Kind → ℕ → Record → Bool
+legalKind none sort r = true
+legalKind (some κ) sort r = legalRecord κ sort r
 
 abbrev pub legalFor : Option Node → Record → Bool
 legalFor none r = true

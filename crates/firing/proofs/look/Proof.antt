@@ -1,0 +1,34 @@
+-- `firing::look` meets its contract. Assumes nothing.
+use Rattle.firing.proofs.Fired.{placed-within, effect-is}
+use borrow.Author.Needs.{needs}
+use Rattle.firing.proofs.look.Statement.{statement}
+use Rattle.firing.proofs.look.Tie as tie
+
+shared-slice-read-wide : tie.Need-shared-slice-read-wide
+shared-slice-read-wide c = search needs
+
+wide-requires : tie.Need-wide-requires
+wide-requires c κs = search needs
+
+see-requires : tie.Need-see-requires
+see-requires c κs = placed-within _ _ (c .before .before .before .before .pre .0 .node) _ (c .before .before .before .before .pre .1) _ (c .before .before .before .before .pre .0)
+
+record-at-requires : tie.Need-record-at-requires
+record-at-requires c κs = search needs
+
+step-requires : tie.Need-step-requires
+step-requires c κs = search needs
+
+returns : tie.Need-returns
+returns c = effect-is _ _ (c .before .before .before .before .before .before .before .pre .0 .node) _ (c .before .before .before .before .before .before .before .pre .1) _ _ (c .before .before .before .wide .ensures .0) _ _ (c .step .result) (c .before .before .see .ensures) (c .before .record-at .ensures) (c .step .ensures)
+
+pub look-spec : {M : Type 1} → statement M
+look-spec =
+    tie.close
+    (tie.spec
+    shared-slice-read-wide
+    wide-requires
+    see-requires
+    record-at-requires
+    step-requires
+    returns)

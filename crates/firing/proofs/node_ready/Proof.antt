@@ -1,0 +1,27 @@
+-- `firing::node_ready` meets its contract. Assumes nothing.
+use Rattle.firing.proofs.Fired.{node-waits, fires-ready}
+use borrow.Author.Needs.{needs}
+use Rattle.firing.proofs.node_ready.Statement.{statement}
+use Rattle.firing.proofs.node_ready.Tie as tie
+
+row-of-requires : tie.Need-row-of-requires
+row-of-requires c κs = search needs
+
+look-requires : tie.Need-look-requires
+look-requires c κs = search needs
+
+enum-told : tie.Need-enum-told
+enum-told c = search needs
+
+enum-told-2 : tie.Need-enum-told-2
+enum-told-2 c = search needs
+
+returns : tie.Need-returns
+returns c = node-waits _ _ (c .before .before .before .before .before .before .pre .node) _ (c .before .before .before .row-of .ensures) _ (c .before .before .look .result) (c .before .before .look .ensures) (c .enum-told .given .1) .0
+
+returns-2 : tie.Need-returns-2
+returns-2 c = fires-ready _ _ (c .before .before .before .before .before .before .pre .node) _ (c .before .before .before .row-of .ensures) _ (c .before .before .look .result) (c .before .before .look .ensures) _ (c .enum-told2 .given .1)
+
+pub node-ready-spec : {M : Type 1} → statement M
+node-ready-spec =
+    tie.close (tie.spec row-of-requires look-requires enum-told enum-told-2 returns returns-2)

@@ -1,0 +1,84 @@
+-- The entries load and fire: document 01, 'Refusal numbers' and 'What the promises settle here'. Each fixes its answer and every lent word, for
+-- any words at all. "Graphs: 11 to 15 in that order, then 17, then 16 (loading) or 18 (firing, run)."
+--
+--   stateRefusal                      11 to 15, then 17 for a state that is not legal
+--   loadRefusal, loadState            the number that load answers, and the state after it
+--   fireRefusal, fireFired, fireState
+--   firedNumber, firedFlag            the paper's number for each case of the answer of fire
+--   FireAnswer, LoadAnswer            what fire and load promise
+--   Fit, Given                        what the inner functions rely on
+--
+-- "All lent memory is unchanged" by a refusal: each of the states is the lent one where its number is not 0.
+-- Assumes nothing.
+use Prim.Native.Nat.{ℕ}
+use mathlib.Core.Path.{_≡_}
+use mathlib.Core.Bool.{Bool, true, false}
+use mathlib.Core.List.{List}
+use lib.Dec.{eqb, ltb}
+use lib.ListN.{length}
+use Rattle.word.specs.Words.{pick, flag}
+use Rattle.graph.specs.Graph.{nodeCount}
+use Rattle.graph.specs.Refusal.{graphRefusal}
+use Rattle.state.specs.Net.{fire, isReady, orElse, netOf}
+use Rattle.graph.specs.Accepted.{Accepted}
+use Rattle.state.specs.Legal.{stateLength, rightLength, legal}
+use Rattle.state.specs.Load.{inputCount, loaded}
+use Rattle.machine.specs.declared.Fired.{Fired}
+use Rattle.machine.specs.declared.Fired.the-variants.{Refused, NotReady, Done}
+
+-- the first number that is not 0
+abbrev pub first : ℕ → ℕ → ℕ
+first a b = pick (eqb a 0) b a
+
+-- 17 STATE: "length not 2W + 4n; except for loading, not legal"
+unfoldable pub stateRefusal : List ℕ → List ℕ → ℕ
+stateRefusal g s = first (graphRefusal g) (pick (legal g s) 0 17)
+
+-- 16 INPUTS: "not one word per input"
+unfoldable pub loadRefusal : List ℕ → List ℕ → List ℕ → ℕ
+loadRefusal g inputs s = first (graphRefusal g) (first (pick (rightLength g s) 0 17) (pick (eqb (length inputs) (inputCount g)) 0 16))
+
+unfoldable pub loadState : List ℕ → List ℕ → List ℕ → List ℕ
+loadState g inputs s = pick (eqb (loadRefusal g inputs s) 0) (loaded g inputs) s
+
+-- 18 ORDER: "a node number not below n"
+unfoldable pub fireRefusal : List ℕ → List ℕ → ℕ → ℕ
+fireRefusal g s i = first (stateRefusal g s) (pick (ltb i (nodeCount g)) 0 18)
+
+unfoldable pub fireFired : List ℕ → List ℕ → ℕ → Bool
+fireFired g s i = pick (eqb (fireRefusal g s i) 0) (isReady (fire (netOf g) i s)) false
+
+unfoldable pub fireState : List ℕ → List ℕ → ℕ → List ℕ
+fireState g s i = pick (eqb (fireRefusal g s i) 0) (orElse (fire (netOf g) i s) s) s
+
+-- The answer of fire, as the paper numbers it: the refusal's number or 0, and whether the node fired
+abbrev pub firedNumber : Fired → ℕ
+firedNumber (Refused n) = n
+firedNumber NotReady = 0
+firedNumber Done = 0
+
+abbrev pub firedFlag : Fired → Bool
+firedFlag (Refused n) = false
+firedFlag NotReady = false
+firedFlag Done = true
+
+-- what fire promises of its answer and of the lent state
+pub record FireAnswer (g s : List ℕ) (i : ℕ) (r : Fired) (exit : List ℕ) : Type 0 where
+  pub number : firedNumber r ≡ fireRefusal g s i
+  pub fired : firedFlag r ≡ fireFired g s i
+  pub state : exit ≡ fireState g s i
+
+-- what load promises of its answer and of the lent state
+pub record LoadAnswer (g inputs s : List ℕ) (r : ℕ) (exit : List ℕ) : Type 0 where
+  pub number : r ≡ loadRefusal g inputs s
+  pub state : exit ≡ loadState g inputs s
+
+-- what the inner checks of a state may rely on: the graph is accepted, and the state has its length
+pub record Fit (g : List ℕ) (len : ℕ) : Type 0 where
+  pub accepted : Accepted g
+  pub size : len ≡ stateLength g
+
+-- what loading may rely on: the graph is accepted, and there is one word per input
+pub record Given (g : List ℕ) (len : ℕ) : Type 0 where
+  pub accepted : Accepted g
+  pub inputs : len ≡ inputCount g
