@@ -9,7 +9,7 @@
 --   rests-unless-spent, not-spent-at-rest         so another answer is given exactly at rest
 --
 -- Assumes nothing.
-use mathlib.Core.Path.{_≡_, refl, sym, ap, _∙_, subst}
+use mathlib.Core.Path.{_≡_, refl, ap}
 use mathlib.Core.Logic.{_≢_}
 use mathlib.Core.Bool.{Bool, true, false, not}
 use mathlib.Core.Option.{Option, none, some}
@@ -20,14 +20,14 @@ use native.Mathlib.Decide.{decLt}
 use borrow.Author.Tests.{le-ltb}
 use lib.Dec.{ltb}
 use Rattle.word.specs.Words.{pick}
-use Rattle.step.specs.Firing.{View, Effect}
+use Rattle.step.specs.Firing.{Effect}
 use Rattle.step.specs.Locality.{Local, step-is-local, nothing-is-local}
 use Rattle.graph.specs.Below.{everyFrom, every, every-each}
-use Rattle.graph.specs.Graph.{Node, nodeAt, rowAt, rowPlace, nodeCount}
+use Rattle.graph.specs.Graph.{Node, nodeAt, nodeCount}
 use Rattle.graph.specs.Refusal.{graphRefusal}
 use Rattle.graph.specs.Accepted.{accepted}
 use Rattle.graph.specs.Wiring.{one-reader, one-writer, input-below, output-below}
-use Rattle.state.specs.Net.{Net, view, effectAt, after, fire, isReady, stepAt, netOf}
+use Rattle.state.specs.Net.{view, effectAt, after, fire, isReady, stepAt, netOf}
 use Rattle.state.specs.Run.{SPENT, COMPLETE, ZERO-STEP, STRANDED, anyReady, complete, zeroStep, Outcome, outcome}
 use Rattle.confluence.specs.Orders.{Rests}
 use Rattle.confluence.specs.Wired.{Wired}

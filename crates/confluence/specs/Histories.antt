@@ -7,9 +7,8 @@
 --   net-rests-alike           so any order of a wired net rests alike
 --
 -- Assumes nothing.
-use mathlib.Core.Path.{_≡_, refl, sym, ap, ap₂, _∙_, subst}
+use mathlib.Core.Path.{_≡_, refl, sym, ap, ap₂, _∙_}
 use mathlib.Core.Logic.{_≢_, _⊎_, inl, inr, ⊎-elim}
-use mathlib.Core.Bool.{Bool, true, false}
 use mathlib.Core.Option.{Option, none, some}
 use mathlib.Core.List.{List, [], _∷_, _++_, append-nil}
 use Prim.Native.Nat.{ℕ}
@@ -18,8 +17,8 @@ use native.Mathlib.Decide.{ℕ-discrete}
 use borrow.Author.Tests.{eq-eqb, ne-eqb}
 use lib.Dec.{eqb}
 use Rattle.word.specs.Words.{pick}
-use Rattle.step.specs.Kinds.{Input, Output, out0, out1}
-use Rattle.step.specs.Firing.{View, Effect, gives}
+use Rattle.step.specs.Kinds.{Output, out0, out1}
+use Rattle.step.specs.Firing.{Effect, gives}
 use Rattle.step.specs.Locality.{Local}
 use Rattle.state.specs.Net.{Net, effectAt, fire}
 use Rattle.confluence.specs.Orders.{fires, Rests, history, Alike, Diamond, orders-rest-alike}

@@ -18,8 +18,8 @@ use borrow.Author.Tests.{eq-eqb, ne-eqb}
 use lib.Dec.{eqb}
 use lib.ListN.{getD, length}
 use Rattle.word.specs.Words.{pick}
-use Rattle.step.specs.Kinds.{Input, in0, in1, in2, Output}
-use Rattle.step.specs.Firing.{View, Effect, takes, gives}
+use Rattle.step.specs.Kinds.{Input, in0, in1, in2}
+use Rattle.step.specs.Firing.{Effect, takes}
 use Rattle.step.specs.Locality.{Local}
 use Rattle.graph.specs.Graph.{listed}
 use Rattle.state.specs.State.{fullPlace, wordPlace, token, isEmpty, tokenAt, stored}
@@ -28,7 +28,7 @@ use Rattle.confluence.specs.Orders.{fires, fires-first, fires-end, histo
 use Rattle.confluence.specs.Places.{length-stored}
 use Rattle.confluence.specs.Wired.{Wired, effect-of, given-empty, taken-not-given}
 use Rattle.confluence.specs.Histories.{puts, putAt, historyOf, puts-given, puts-nothing}
-use Rattle.confluence.specs.Update.{wireAt, Untouched, Touch, takes-it, gives-it, leaves-it, touch, taken-after, given-after, still-after}
+use Rattle.confluence.specs.Update.{Touch, takes-it, gives-it, leaves-it, touch, taken-after, given-after, still-after}
 
 abbrev pub stands : List ℕ → ℕ → List ℕ
 stands s w = listed (tokenAt s w)

@@ -5,7 +5,7 @@
 --   the-sum-of-five           with input 5 every order has at most 58 firings, and one that rests has 58 and leaves 10 on the result's wire
 --
 -- Assumes nothing.
-use mathlib.Core.Path.{_≡_, refl, sym, ap, _∙_, subst}
+use mathlib.Core.Path.{_≡_, refl, ap, _∙_}
 use mathlib.Core.Bool.{true, false}
 use mathlib.Core.Option.{some}
 use mathlib.Core.List.{List, [], _∷_}
@@ -24,7 +24,7 @@ use Rattle.state.specs.Net.{fire, isReady, netOf}
 use Rattle.state.specs.Load.{loaded, startWord}
 use Rattle.state.specs.Run.{turn, follow, sweepFrom, sweeps, finish, run, anyReady}
 use Rattle.confluence.specs.Graphs.{rests-if-none-ready}
-use Rattle.confluence.specs.Statements.{Fires, AtRest, RestsAlike, every-order-rests-alike, runOf, run-counts-firings}
+use Rattle.confluence.specs.Statements.{Fires, AtRest, every-order-rests-alike, runOf, run-counts-firings}
 
 pub the-sum-graph-is-accepted : graphRefusal sumGraph ≡ 0
 unfolding graphRefusal hasShape rowsRight startRight rowRight wiresBelow rowBelow readOnce sortsAgree rowSorted everyFrom total joined times rowAt nodeAt reads wireSorts sumGraph kindOf

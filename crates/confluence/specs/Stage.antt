@@ -9,17 +9,15 @@
 -- Assumes nothing.
 use mathlib.Core.Path.{_≡_, refl, sym, ap, _∙_, subst}
 use mathlib.Core.Logic.{_≢_, _⊎_, inl, inr}
-use mathlib.Core.Bool.{Bool, true, false}
-use mathlib.Core.Option.{Option, none, some}
-use mathlib.Core.List.{List, [], _∷_, _++_, append-nil}
+use mathlib.Core.Bool.{true}
+use mathlib.Core.Option.{Option, some}
+use mathlib.Core.List.{List, [], _∷_, _++_}
 use Prim.Native.Nat.{ℕ, _+_, _*_, _≤_, _<_}
 use native.Mathlib.Omega.{arith}
-use native.Mathlib.Decide.{ℕ-discrete}
 use lib.ListN.{length}
 use Rattle.step.specs.Kinds.{Input, Output}
-use Rattle.step.specs.Firing.{View, Effect, takes, gives}
+use Rattle.step.specs.Firing.{Effect, takes, gives}
 use Rattle.step.specs.Locality.{Local}
-use Rattle.step.specs.declared.Record.{Record}
 use Rattle.state.specs.State.{recordPlace, recordAt, stored}
 use Rattle.state.specs.Net.{Net, effectAt, stores, fire}
 use Rattle.confluence.specs.Orders.{fires, fires-none, fires-on, history-none, history-on}

@@ -30,11 +30,11 @@ use mathlib.Core.Path.{_≡_, refl, sym, ap, _∙_, subst}
 use mathlib.Core.Logic.{_≢_, _⊎_, inl, inr}
 use mathlib.Core.Bool.{true}
 use mathlib.Core.Option.{some}
-use mathlib.Core.List.{List, [], _∷_, _++_}
+use mathlib.Core.List.{List, [], _++_}
 use Prim.Native.Nat.{ℕ, _+_, _*_, _≤_, _<_}
 use native.Mathlib.Omega.{arith}
 use lib.ListN.{length}
-use Rattle.step.specs.Firing.{View, Effect}
+use Rattle.step.specs.Firing.{Effect}
 use Rattle.graph.specs.Graph.{nodeCount, wireCount}
 use Rattle.graph.specs.Refusal.{graphRefusal}
 use Rattle.state.specs.Net.{effectAt, fire, netOf}

@@ -13,14 +13,13 @@ use mathlib.Core.Logic.{_≢_, _⊎_, inl, inr}
 use mathlib.Core.Bool.{Bool, true, false}
 use mathlib.Core.Option.{Option, none, some}
 use mathlib.Core.List.{List}
-use Prim.Native.Nat.{ℕ, zero, suc, _+_, _*_, _≤_, _<_}
+use Prim.Native.Nat.{ℕ, _+_, _*_, _≤_, _<_}
 use native.Mathlib.Decide.{ℕ-discrete}
 use native.Mathlib.Omega.{arith}
 use lib.ListN.{getD, length}
 use Rattle.step.specs.Kinds.{Input, in0, in1, in2, Output, out0, out1}
-use Rattle.step.specs.Firing.{View, Effect, takes, gives}
+use Rattle.step.specs.Firing.{Effect, takes, gives}
 use Rattle.step.specs.Locality.{Local}
-use Rattle.step.specs.declared.Record.{Record}
 use Rattle.state.specs.State.{fullPlace, wordPlace, recordPlace, recordAt, stored, emptied, filled, kept}
 use Rattle.state.specs.Net.{Net, effectAt, stores}
 use Rattle.confluence.specs.Places.{Each, each-map, Off, stored-other, stored-value}

@@ -15,11 +15,11 @@ use mathlib.Core.Logic.{_≢_}
 use mathlib.Core.Bool.{Bool, true, false}
 use mathlib.Core.Option.{Option, none, some}
 use mathlib.Core.List.{List, _++_}
-use Prim.Native.Nat.{ℕ, zero, suc, _+_, _*_, _≤_, _<_}
+use Prim.Native.Nat.{ℕ, zero, suc, _+_, _≤_, _<_}
 use native.Mathlib.Omega.{arith}
 use lib.ListN.{getD}
 use Rattle.step.specs.Kinds.{Input, in0, in1, in2, Output, out0, out1}
-use Rattle.step.specs.Firing.{View, Effect, waits, room, takes, gives}
+use Rattle.step.specs.Firing.{Effect, waits, room, takes, gives}
 use Rattle.step.specs.Locality.{Local}
 use Rattle.step.specs.declared.Record.{Record}
 use Rattle.state.specs.State.{fullPlace, wordPlace, recordPlace, token, isEmpty, tokenAt, tokenOn, hasRoom, recordAt, Stores, stored, emptied, filled, kept}
