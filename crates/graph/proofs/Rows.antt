@@ -1,8 +1,8 @@
 -- Rows as the code reads them: node i stands at its row's place, and each test of a row in terms of the words there.
 -- The kind's number may be no kind; the columns of the table of kinds are then 0, and so the tests agree there too.
 -- Assumes nothing.
-use Prim.Native.Nat.{ℕ, zero, suc, _+_, _*_, _<_, _≤_}
-use mathlib.Core.Path.{_≡_, refl, sym, ap, _∙_}
+use Prim.Native.Nat.{ℕ, _+_, _<_, _≤_}
+use mathlib.Core.Path.{_≡_, refl, sym, _∙_}
 use mathlib.Core.Bool.{Bool, true, false, _&&_}
 use mathlib.Core.List.{List, [], _∷_, _++_}
 use mathlib.Core.Option.{Option, none, some}
@@ -11,10 +11,10 @@ use borrow.Author.Tests.{lt-ltb, le-ltb, ltb-true}
 use lib.Dec.{eqb, ltb}
 use lib.ListN.{getD}
 use Rattle.word.specs.Words.{pick}
-use Rattle.step.specs.Kinds.{Kind, kindOf, inputs, outputs, codes, ownSorts, inputSort, Input, in0, in1, in2, STREAM, GATE, CARRY, INVARIANT, SPLIT, FORK, DRAIN, OP, PICK}
+use Rattle.step.specs.Kinds.{Kind, kindOf, inputs, outputs, codes, ownSorts, Input, in0, in1, in2, STREAM, GATE, CARRY, INVARIANT, SPLIT, FORK, DRAIN, OP, PICK}
 use Rattle.graph.specs.Below.{both-true}
-use Rattle.graph.specs.Graph.{absent, startKindAt, startWordAt, inputsBefore, nodeCount, rowPlace, Node, nodeOf, rowAt, nodeAt, inputPlace, column, outputCount, listed, nodeReads}
-use Rattle.graph.specs.Refusal.{startRight, rowRight, rowBelow, rowSorted}
+use Rattle.graph.specs.Graph.{absent, startKindAt, startWordAt, inputsBefore, nodeCount, rowPlace, nodeOf, rowAt, nodeAt, inputPlace, column, outputCount, listed, nodeReads}
+use Rattle.graph.specs.Refusal.{startRight, rowRight, rowBelow}
 
 pub node-is-row : (g : List ℕ) (i : ℕ) {p : ℕ} → i < nodeCount g → p ≡ rowPlace g i → nodeAt g i ≡ rowAt g p
 unfolding nodeAt

@@ -12,9 +12,9 @@ use lib.Dec.{eqb, ltb}
 use lib.ListN.{getD, set, take, drop, length, length-replicate, replicate}
 use lib.Seq.{sets, sets-eq}
 use Rattle.word.specs.Words.{pick}
-use Rattle.step.specs.Kinds.{Kind, kindOf, inputs, outputs, inputSort, outputSort, Input, in0, in1, in2, out0, out1, STREAM, GATE, CARRY, INVARIANT, SPLIT, FORK, DRAIN, OP, PICK}
+use Rattle.step.specs.Kinds.{Kind, kindOf, inputs, outputs, Input, in0, in1, in2, out0, out1, STREAM, GATE, CARRY, INVARIANT, SPLIT, FORK, DRAIN, OP, PICK}
 use Rattle.graph.specs.Below.{joined, joined-more}
-use Rattle.graph.specs.Graph.{nodeCount, startCount, wireCount, resultAt, rowPlace, nodeOf, rowAt, nodeAt, inputPlace, column, inputSortOf, outputSortOf, outputSorts, outputsBefore, firstAt, wireSorts, sortAt, as-many-sorts-as-outputs}
+use Rattle.graph.specs.Graph.{nodeCount, startCount, wireCount, resultAt, rowPlace, nodeOf, rowAt, nodeAt, inputPlace, column, inputSortOf, outputSortOf, outputSorts, firstAt, wireSorts, sortAt, as-many-sorts-as-outputs}
 use Rattle.graph.specs.Refusal.{rowSorted, nodeSorted, resultSorted}
 use Rattle.graph.proofs.Rows.{node-is-row}
 

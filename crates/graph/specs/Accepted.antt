@@ -5,20 +5,20 @@
 --   accepted            a graph that is not refused is accepted
 --
 -- Assumes nothing.
-use Prim.Native.Nat.{ℕ, zero, suc, _+_, _<_, _≤_}
+use Prim.Native.Nat.{ℕ, _<_}
 use mathlib.Core.Path.{_≡_, refl, sym, ap, _∙_}
 use mathlib.Core.Logic.{_⊎_, inl, inr}
-use mathlib.Core.Bool.{Bool, true, false, _&&_}
-use mathlib.Core.List.{List, [], _∷_}
+use mathlib.Core.Bool.{Bool, true, false}
+use mathlib.Core.List.{List}
 use mathlib.Core.Option.{Option, none, some}
 use native.Mathlib.Omega.{arith}
-use borrow.Author.Tests.{ltb-true, ltb-false, eqb-true, ne-eqb}
+use borrow.Author.Tests.{ltb-true, eqb-true, ne-eqb}
 use lib.Dec.{eqb, ltb}
 use lib.ListN.{getD}
 use Rattle.word.specs.Words.{pick}
-use Rattle.step.specs.Kinds.{Kind, inputs, outputs, codes, ownSorts, inputSort, Input, in0, in1, in2}
+use Rattle.step.specs.Kinds.{outputs, codes, ownSorts, inputSort, Input, in0, in1, in2}
 use Rattle.graph.specs.Below.{every, every-each, both-true, times}
-use Rattle.graph.specs.Graph.{absent, nodeCount, wireCount, startCount, resultCount, startKindAt, startWordAt, inputsBefore, resultAt, rowPlace, Node, rowAt, nodeAt, hasInput, wireOn, inputOf, inputAt, outputCount, firstAt, reads, wireSorts, sortAt}
+use Rattle.graph.specs.Graph.{absent, nodeCount, wireCount, startCount, resultCount, startKindAt, startWordAt, inputsBefore, resultAt, rowPlace, Node, rowAt, nodeAt, hasInput, wireOn, inputOf, inputAt, firstAt, reads, wireSorts, sortAt}
 use Rattle.graph.specs.Refusal.{hasShape, Shaped, shaped, startRight, everyInput, spareInput, firstOutput, rowRight, rowsRight, start-is-right, node-is-right, wires-are-all-outputs, inputBelow, rowBelow, wiresBelow, node-is-below, result-is-below, onceRead, readOnce, inputSorted, rowSorted, nodeSorted, resultSorted, sortsAgree, graphRefusal}
 
 -- Node i: its row, code and sort in their lists, X where a place is absent, and outputs numbered on from the outputs before it.

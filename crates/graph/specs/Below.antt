@@ -7,10 +7,13 @@
 --   times                         how often a number stands in a list
 --   every-go, -stop, -end         how a loop follows `every`; every-each is what it then knows
 --   both-true                     what a conjunction says
+--   total-within, total-somewhere                    where a number lies in a sum
+--   joined-at                                        where a list stands in the joined list
+--   times-append, -within, -of-two, -somewhere       how often a number stands in a joined list
 --
 -- Assumes nothing.
 use Prim.Native.Nat.{ℕ, zero, suc, _+_, _-_, _<_, _≤_}
-use mathlib.Core.Path.{_≡_, refl, sym, ap, ap₂, _∙_}
+use mathlib.Core.Path.{_≡_, refl, ap, ap₂, _∙_}
 use mathlib.Core.Logic.{_⊎_, inl, inr, ⊎-elim}
 use native.Mathlib.Omega.{arith}
 use native.Mathlib.Nat.{eq-or-lt-of-le}

@@ -6,7 +6,7 @@
 --
 -- Assumes nothing.
 use Prim.Native.Nat.{ℕ, zero, suc, _+_, _<_}
-use mathlib.Core.Path.{_≡_, refl, sym, ap, _∙_}
+use mathlib.Core.Path.{_≡_, refl, sym}
 use mathlib.Core.Bool.{Bool, true, false}
 use mathlib.Core.List.{List, [], _∷_, _++_}
 use native.Mathlib.Omega.{arith}
@@ -14,7 +14,7 @@ use lib.Dec.{eqb}
 use lib.ListN.{getD, set, length, length-set, replicate, getD-replicate, length-replicate}
 use lib.Seq.{getD-set-same, getD-set-other}
 use borrow.Author.Tests.{eqb-true, eqb-false, ne-eqb}
-use Rattle.word.specs.Words.{pick, flag}
+use Rattle.word.specs.Words.{flag}
 use Rattle.graph.specs.Below.{times}
 
 abbrev pub onceMore : ℕ → ℕ

@@ -8,18 +8,7 @@ use mathlib.Core.List.{List, [], _∷_, _++_}
 use lib.ListN.{set, take}
 use Rattle.graph.specs.Below.{everyFrom, total, joined, times}
 use Rattle.graph.specs.Graph.{absent, rowAt, nodeAt, reads, wireSorts}
-use Rattle.graph.specs.Refusal.{
-  hasShape,
-  startRight,
-  rowRight,
-  rowsRight,
-  rowBelow,
-  wiresBelow,
-  readOnce,
-  rowSorted,
-  sortsAgree,
-  graphRefusal,
-}
+use Rattle.graph.specs.Refusal.{hasShape, startRight, rowRight, rowsRight, rowBelow, wiresBelow, readOnce, rowSorted, sortsAgree, graphRefusal}
 use Rattle.graph.specs.SumGraph.{sumGraph}
 use Rattle.step.specs.Kinds.{kindOf}
 
@@ -33,6 +22,10 @@ changed g (c ∷ cs) = set (changed g cs) (c .0) (c .1)
 abbrev refusals : List (List Change) → List ℕ
 refusals [] = []
 refusals (c ∷ cs) = graphRefusal (changed sumGraph c) ∷ refusals cs
+
+pub sum-graph-is-accepted : graphRefusal sumGraph ≡ 0
+unfolding graphRefusal hasShape rowsRight startRight rowRight wiresBelow rowBelow readOnce sortsAgree rowSorted everyFrom total joined times rowAt nodeAt reads wireSorts sumGraph kindOf
+sum-graph-is-accepted = refl
 
 -- A graph cut short, or with words left over; counts beyond their limits, though the rows would take long to read.
 shape-comes-first :

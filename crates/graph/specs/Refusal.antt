@@ -8,16 +8,16 @@
 --   graphRefusal                  the first of them that fails, else 0
 --
 -- Assumes nothing.
-use Prim.Native.Nat.{ℕ, zero, suc, _+_, _*_, _≤_, _<_}
+use Prim.Native.Nat.{ℕ, _+_, _*_, _≤_, _<_}
 use mathlib.Core.Path.{_≡_}
 use mathlib.Core.Bool.{Bool, true, false, _&&_}
-use mathlib.Core.List.{List, [], _∷_, _++_}
+use mathlib.Core.List.{List}
 use mathlib.Core.Option.{Option, none, some}
 use borrow.Author.Tests.{ltb-true, leb-true, eqb-true}
 use lib.Dec.{eqb, ltb, leb}
 use lib.ListN.{getD, length}
 use Rattle.word.specs.Words.{pick}
-use Rattle.step.specs.Kinds.{Kind, inputs, outputs, codes, ownSorts, inputSort, Input, in0, in1, in2}
+use Rattle.step.specs.Kinds.{Kind, outputs, codes, ownSorts, inputSort, Input, in0, in1, in2}
 use Rattle.graph.specs.Below.{every, times, every-each, both-true}
 use Rattle.graph.specs.Graph.{absent, nodeCount, wireCount, startCount, resultCount, startKindAt, startWordAt, inputsBefore, resultAt, Node, nodeAt, hasInput, wireOn, firstAt, reads, wireSorts, sortAt}
 

@@ -19,15 +19,15 @@ use mathlib.Core.Bool.{Bool, true, false}
 use mathlib.Core.List.{List, [], _∷_, _++_}
 use mathlib.Core.Option.{Option, none, some}
 use native.Mathlib.Omega.{arith}
-use borrow.Author.Tests.{lt-ltb, ltb-true, eqb-true, eq-eqb, ne-eqb}
-use lib.Dec.{eqb, ltb}
-use lib.ListN.{length, getD, take, replicate, length-replicate, getD-replicate, length-append, List·getD-append}
+use borrow.Author.Tests.{lt-ltb, ltb-true, eqb-true}
+use lib.Dec.{eqb}
+use lib.ListN.{length, getD, replicate, length-replicate, getD-replicate, length-append, List·getD-append}
 use lib.Seq.{getD-append-add, getD-take}
-use Rattle.word.specs.Words.{pick, flag}
-use Rattle.step.specs.Kinds.{Kind, inputs, outputs, inputSort, outputSort, Input, in0, in1, in2, Output, out0, out1, STREAM, GATE, CARRY, INVARIANT, SPLIT, FORK, DRAIN, OP, PICK}
-use Rattle.graph.specs.Below.{total, total-within, total-somewhere, joined, joined-at, times, times-append, times-one, times-within, times-of-two, times-somewhere, order}
-use Rattle.graph.specs.Graph.{nodeCount, wireCount, startCount, resultCount, resultAt, Node, nodeAt, hasInput, hasOutput, outputPlace, wireOn, inputOf, outputOf, inputAt, outputAt, outputCount, outputsBefore, firstAt, listed, nodeReads, results, reads, outputSorts, wireSorts, sortAt, as-many-sorts-as-outputs, node-sorts}
-use Rattle.graph.specs.Accepted.{Row, Accepted, picked, node-in-range, input-of-node}
+use Rattle.word.specs.Words.{flag}
+use Rattle.step.specs.Kinds.{Kind, outputs, inputSort, outputSort, Input, in0, in1, in2, Output, out0, out1, STREAM, GATE, CARRY, INVARIANT, SPLIT, FORK, DRAIN, OP, PICK}
+use Rattle.graph.specs.Below.{total-within, total-somewhere, joined, joined-at, times, times-append, times-one, times-within, times-of-two, times-somewhere, order}
+use Rattle.graph.specs.Graph.{nodeCount, wireCount, startCount, resultCount, resultAt, Node, nodeAt, hasOutput, outputPlace, inputOf, outputOf, inputAt, outputAt, outputCount, outputsBefore, firstAt, listed, nodeReads, results, reads, outputSorts, wireSorts, sortAt, as-many-sorts-as-outputs, node-sorts}
+use Rattle.graph.specs.Accepted.{Accepted, picked, node-in-range, input-of-node}
 
 -- ---- reads of one node
 

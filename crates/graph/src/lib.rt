@@ -376,7 +376,7 @@ fn count_nodes(graph: &[u32], seen: &mut [u32; 8192])
     }
 }
 
-fn count_results(graph: &[u32], seen: &mut [u32; 8192])
+pub fn count_results(graph: &[u32], seen: &mut [u32; 8192])
     requires { ⌜ Shaped (now graph) × (wiresBelow (now graph) ≡ true) ⌝ }
     ensures { λ r. ⌜ now (seen .exit) ≡ counted (now (seen .entry)) (results (now (graph .entry)) (resultCount (now (graph .entry)))) ⌝ }
 {

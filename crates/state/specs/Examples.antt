@@ -17,7 +17,7 @@ use Rattle.state.specs.State.{tokenAt}
 use Rattle.state.specs.Net.{fire, netOf}
 use Rattle.state.specs.Legal.{legal, legalWire, legalNode}
 use Rattle.state.specs.Load.{loaded, startWord}
-use Rattle.state.specs.Run.{At, Outcome, turn, follow, sweepFrom, sweeps, finish, run, anyReady, complete, zeroStepAt, firstFrom, outcome}
+use Rattle.state.specs.Run.{At, Outcome, turn, follow, sweepFrom, sweeps, finish, run, anyReady, complete, resultsFull, othersEmpty, phasesZero, zeroStepAt, firstFrom, outcome}
 
 abbrev ran : List ℕ → List ℕ → List ℕ → ℕ → At
 ran g inputs order allowance = run (netOf g) 13 order (record { state = loaded g inputs; left = allowance })
@@ -34,21 +34,21 @@ unfolding sumGraph loaded startWord total joined legal legalWire legalNode every
 legal-loaded = refl
 
 input-5 : shown sumGraph (ran sumGraph (5 ∷ []) [] 1000) ≡ (0, 0, 942, some 10)
-unfolding sumGraph loaded startWord total joined everyFrom nodeAt rowAt kindOf fire step turn follow sweepFrom sweeps finish run anyReady complete zeroStepAt firstFrom outcome times condition update operate
+unfolding sumGraph loaded startWord total joined everyFrom nodeAt rowAt kindOf fire step turn follow sweepFrom sweeps finish run anyReady complete resultsFull othersEmpty phasesZero zeroStepAt firstFrom outcome times condition update operate
 input-5 = refl
 
 in-reverse : shown sumGraph (ran sumGraph (5 ∷ []) (12 ∷ 11 ∷ 10 ∷ 9 ∷ 8 ∷ 7 ∷ 6 ∷ 5 ∷ 4 ∷ 3 ∷ 2 ∷ 1 ∷ 0 ∷ []) 58) ≡ (0, 0, 0, some 10)
-unfolding sumGraph loaded startWord total joined everyFrom nodeAt rowAt kindOf fire step turn follow sweepFrom sweeps finish run anyReady complete zeroStepAt firstFrom outcome times condition update operate
+unfolding sumGraph loaded startWord total joined everyFrom nodeAt rowAt kindOf fire step turn follow sweepFrom sweeps finish run anyReady complete resultsFull othersEmpty phasesZero zeroStepAt firstFrom outcome times condition update operate
 in-reverse = refl
 
 one-short : shown sumGraph (ran sumGraph (5 ∷ []) [] 57) ≡ (3, 0, 0, some 10)
-unfolding sumGraph loaded startWord total joined everyFrom nodeAt rowAt kindOf fire step turn follow sweepFrom sweeps finish run anyReady complete zeroStepAt firstFrom outcome times condition update operate
+unfolding sumGraph loaded startWord total joined everyFrom nodeAt rowAt kindOf fire step turn follow sweepFrom sweeps finish run anyReady complete resultsFull othersEmpty phasesZero zeroStepAt firstFrom outcome times condition update operate
 one-short = refl
 
 input-0 : shown sumGraph (ran sumGraph (0 ∷ []) [] 1000) ≡ (0, 0, 987, some 0)
-unfolding sumGraph loaded startWord total joined everyFrom nodeAt rowAt kindOf fire step turn follow sweepFrom sweeps finish run anyReady complete zeroStepAt firstFrom outcome times condition update operate
+unfolding sumGraph loaded startWord total joined everyFrom nodeAt rowAt kindOf fire step turn follow sweepFrom sweeps finish run anyReady complete resultsFull othersEmpty phasesZero zeroStepAt firstFrom outcome times condition update operate
 input-0 = refl
 
 zero-step : shown zeroed (ran zeroed (5 ∷ []) [] 1000) ≡ (1, 0, 994, none)
-unfolding sumGraph loaded startWord total joined everyFrom nodeAt rowAt kindOf fire step turn follow sweepFrom sweeps finish run anyReady complete zeroStepAt firstFrom outcome times condition update operate
+unfolding sumGraph loaded startWord total joined everyFrom nodeAt rowAt kindOf fire step turn follow sweepFrom sweeps finish run anyReady complete resultsFull othersEmpty phasesZero zeroStepAt firstFrom outcome times condition update operate
 zero-step = refl

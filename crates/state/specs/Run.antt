@@ -82,11 +82,17 @@ isFull s w = not (isEmpty (getD s (fullPlace w) 0))
 abbrev pub isResult : List ℕ → ℕ → Bool
 isResult g w = ltb 0 (times w (results g (resultCount g)))
 
+unfoldable pub resultsFull : List ℕ → List ℕ → Bool
+resultsFull g s = every (resultCount g) (λ k. isFull s (resultAt g k))
+
+unfoldable pub othersEmpty : List ℕ → List ℕ → Bool
+othersEmpty g s = every (wireCount g) (λ w. isResult g w || not (isFull s w))
+
+unfoldable pub phasesZero : List ℕ → List ℕ → Bool
+phasesZero g s = every (nodeCount g) (λ i. eqb (recordAt (wireCount g) s i .phase) 0)
+
 unfoldable pub complete : List ℕ → List ℕ → Bool
-complete g s =
-    every (resultCount g) (λ k. isFull s (resultAt g k))
-    && (every (wireCount g) (λ w. isResult g w || not (isFull s w))
-    && every (nodeCount g) (λ i. eqb (recordAt (wireCount g) s i .phase) 0))
+complete g s = resultsFull g s && (othersEmpty g s && phasesZero g s)
 
 -- "the lowest STREAM in phase 0 that has three tokens and step 0"
 abbrev pub isStream : Option Node → Bool

@@ -1,0 +1,4 @@
+-- The plain reading of a loop table in small steps, and the register's tables read.
+pub mod Reading
+pub mod Outcome
+pub mod Cases

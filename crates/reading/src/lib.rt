@@ -1,0 +1,1 @@
+// The plain reading of a table is a definition: specs/ holds all of this crate.

@@ -1,0 +1,9 @@
+-- The structure of a table that passes refusals 1 to 9.
+pub mod Place
+pub mod Loops
+pub mod Spans
+pub mod Serving
+pub mod Operands
+pub mod Order
+pub mod Paper
+pub mod Structure

@@ -1,0 +1,1 @@
+// The structure of tables that pass: theorems alone, in specs/.

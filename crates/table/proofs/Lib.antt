@@ -1,0 +1,5 @@
+-- The laws that the proofs of the functions cite.
+pub mod Loops
+pub mod Sight
+pub mod Noting
+pub mod Turns

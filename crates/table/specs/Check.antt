@@ -1,0 +1,151 @@
+-- The refusal of a table, 1 to 9, as one function of its words.
+-- Main names: `rowRefusal`, `tableRefusal`, and the test of each number: `lengthRight`, `kindRight`, `spareRight`, `codeRight`,
+-- `placeRight`, `depthRight`, `namesRight`, `typesRight`, `endRight`.
+-- Assumes nothing.
+use Prim.Native.Nat.{ℕ, zero, suc, _+_, _-_, _%_}
+use mathlib.Core.Bool.{Bool, true, false, cond, _&&_, _||_}
+use mathlib.Core.List.{List, [], _∷_}
+use lib.Dec.{eqb, leb, ltb}
+use lib.ListN.{length}
+use Rattle.table.specs.Rows.{kindOf, word, size, INPUT, CONST, OP, FOR, ARG, NEXT, END, OUT, usedWords, operandCount, firstOperand, sortOf, wantedSort}
+use Rattle.table.specs.Scan.{Loop, stackAt, visible}
+
+-- the numbers
+abbrev pub LENGTH : ℕ
+LENGTH = 1
+
+abbrev pub KIND : ℕ
+KIND = 2
+
+abbrev pub SPARE : ℕ
+SPARE = 3
+
+abbrev pub CODE : ℕ
+CODE = 4
+
+abbrev pub PLACE : ℕ
+PLACE = 5
+
+abbrev pub DEPTH : ℕ
+DEPTH = 6
+
+abbrev pub NAME : ℕ
+NAME = 7
+
+abbrev pub TYPE : ℕ
+TYPE = 8
+
+abbrev pub OPEN : ℕ
+OPEN = 9
+
+-- 1 LENGTH: 'not a multiple of 6, no rows, over 512 rows'
+unfoldable pub lengthRight : List ℕ → Bool
+lengthRight t = eqb (length t % 6) 0 && (leb 1 (size t) && leb (size t) 512)
+
+-- 2 KIND: 'kind over 8'
+unfoldable pub kindRight : List ℕ → ℕ → Bool
+kindRight t r = leb (kindOf t r) OUT
+
+-- 3 SPARE: 'unused word not 0'. So many words of row r, from word k up, are 0.
+unfoldable pub zerosFrom : ℕ → List ℕ → ℕ → ℕ → Bool
+zerosFrom zero t r k = true
+zerosFrom (suc m) t r k = eqb (word t r k) 0 && zerosFrom m t r (k + 1)
+
+unfoldable pub spareRight : List ℕ → ℕ → Bool
+spareRight t r = zerosFrom (5 - usedWords (kindOf t r)) t r (usedWords (kindOf t r) + 1)
+
+-- 4 CODE: 'code beyond its list'. Eight operators; six updates and five conditions.
+unfoldable pub codeRight : List ℕ → ℕ → Bool
+codeRight t r =
+    cond (eqb (kindOf t r) OP) (leb (word t r 1) 7)
+    (cond (eqb (kindOf t r) FOR) (leb (word t r 4) 5 && leb (word t r 5) 4) true)
+
+-- 5 PLACE. The kind of the row before; the first row stands as if behind an INPUT.
+abbrev pub kindBefore : List ℕ → ℕ → ℕ
+kindBefore t zero = INPUT
+kindBefore t (suc r) = kindOf t r
+
+-- 'only OUT follows it'; 'after a NEXT comes NEXT or END'; 'INPUT and CONST come before all other kinds'; 'ARG follows FOR or ARG'.
+-- Rows are refused in order, so it is enough to look at the row before: an INPUT behind an INPUT or CONST has only such rows before it,
+-- and a row behind no OUT has no OUT before it.
+unfoldable pub follows : ℕ → ℕ → Bool
+follows before kind =
+    cond (eqb before OUT) (eqb kind OUT)
+    (cond (eqb before NEXT) (eqb kind NEXT || eqb kind END)
+    (cond (leb kind CONST) (leb before CONST) (cond (eqb kind ARG) (eqb before FOR || eqb before ARG) true)))
+
+-- 'The n-th NEXT of a loop serves its n-th ARG; there are as many.' The innermost loop has an ARG left for one more NEXT.
+abbrev pub argLeft : List Loop → Bool
+argLeft [] = false
+argLeft (l ∷ s) = ltb (l .nexts) (l .args)
+
+-- 'END needs an open loop with all its NEXTs.'
+abbrev pub allServed : List Loop → Bool
+allServed [] = false
+allServed (l ∷ s) = eqb (l .nexts) (l .args)
+
+-- 'OUT stands outside every loop.'
+abbrev pub outside : List Loop → Bool
+outside [] = true
+outside (l ∷ s) = false
+
+unfoldable pub stands : ℕ → List Loop → Bool
+stands kind s =
+    cond (eqb kind NEXT) (argLeft s) (cond (eqb kind END) (allServed s) (cond (eqb kind OUT) (outside s) true))
+
+unfoldable pub placeRight : List ℕ → ℕ → Bool
+placeRight t r = follows (kindBefore t r) (kindOf t r) && stands (kindOf t r) (stackAt t r)
+
+-- 6 DEPTH: 'FOR with 8 loops open'
+unfoldable pub depthRight : List ℕ → ℕ → Bool
+depthRight t r = cond (eqb (kindOf t r) FOR) (ltb (length (stackAt t r)) 8) true
+
+-- 7 NAME: 'operand not visible'. So many words of row r, from word k up, name visible values.
+unfoldable pub namesFrom : ℕ → List ℕ → ℕ → ℕ → Bool
+namesFrom zero t r k = true
+namesFrom (suc m) t r k = visible t r (word t r k) && namesFrom m t r (k + 1)
+
+unfoldable pub namesRight : List ℕ → ℕ → Bool
+namesRight t r = namesFrom (operandCount (kindOf t r)) t r (firstOperand (kindOf t r))
+
+-- 8 TYPE: 'wrong sort'
+unfoldable pub typesFrom : ℕ → List ℕ → ℕ → ℕ → Bool
+typesFrom zero t r k = true
+typesFrom (suc m) t r k = eqb (sortOf t (word t r k)) (wantedSort (kindOf t r) k) && typesFrom m t r (k + 1)
+
+unfoldable pub typesRight : List ℕ → ℕ → Bool
+typesRight t r = typesFrom (operandCount (kindOf t r)) t r (firstOperand (kindOf t r))
+
+-- 9 OPEN: 'a loop open at the end, or no OUT'. Only OUT follows an OUT, so there is one exactly if the last row is one.
+unfoldable pub endRight : List ℕ → Bool
+endRight t = outside (stackAt t (size t)) && eqb (kindBefore t (size t)) OUT
+
+-- '2 to 8 row by row, lowest number within a row': the first test that fails gives the number, 0 where none does
+abbrev pub orElse : Bool → ℕ → ℕ → ℕ
+orElse true number rest = rest
+orElse false number rest = number
+
+unfoldable pub rowRefusal : List ℕ → ℕ → ℕ
+rowRefusal t r =
+    orElse (kindRight t r) KIND
+    (orElse (spareRight t r) SPARE
+    (orElse (codeRight t r) CODE
+    (orElse (placeRight t r) PLACE
+    (orElse (depthRight t r) DEPTH (orElse (namesRight t r) NAME (orElse (typesRight t r) TYPE 0))))))
+
+-- 'Each returns its number and a row'
+pub record Refusal : Type 0 where
+  pub number : ℕ
+  pub row : ℕ
+
+abbrev pub answer : ℕ → ℕ → Refusal
+answer k r = record { number = k; row = r }
+
+-- so many rows from row r up; 'then 9', with the row count; 'a check that succeeds answers 0'
+unfoldable pub rowsFrom : ℕ → List ℕ → ℕ → Refusal
+rowsFrom zero t r = cond (endRight t) (answer 0 0) (answer OPEN r)
+rowsFrom (suc m) t r = cond (eqb (rowRefusal t r) 0) (rowsFrom m t (r + 1)) (answer (rowRefusal t r) r)
+
+-- '1 first'
+unfoldable pub tableRefusal : List ℕ → Refusal
+tableRefusal t = cond (lengthRight t) (rowsFrom (size t) t 0) (answer LENGTH 0)

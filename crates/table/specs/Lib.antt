@@ -1,0 +1,8 @@
+-- Loop tables: rows, the scan, the refusals 1 to 9, and the cases that compute.
+pub mod Rows
+pub mod Scan
+pub mod Bodies
+pub mod Check
+pub mod Kept
+pub mod Right
+pub mod Cases
