@@ -24,7 +24,7 @@ use Rattle.state.specs.Net.{fire, isReady, netOf}
 use Rattle.state.specs.Load.{loaded, startWord}
 use Rattle.state.specs.Run.{turn, follow, sweepFrom, sweeps, finish, run, anyReady}
 use Rattle.confluence.specs.Graphs.{rests-if-none-ready}
-use Rattle.confluence.specs.Statements.{Fires, AtRest, every-order-rests-alike, runOf, run-counts-firings}
+use Rattle.confluence.specs.Statements.{Fires, AtRest, every-order-rests-alike, runOf, madeBy, run-counts-firings}
 
 pub the-sum-graph-is-accepted : graphRefusal sumGraph ≡ 0
 unfolding graphRefusal hasShape rowsRight startRight rowRight wiresBelow rowBelow readOnce sortsAgree rowSorted everyFrom total joined times rowAt nodeAt reads wireSorts sumGraph kindOf
@@ -58,8 +58,8 @@ pub the-sum-of-five : (order u : List ℕ) → Fires sumGraph order start u
     → (length order ≤ 58) × (AtRest sumGraph u → (length order ≡ 58) × (tokenAt u 10 ≡ some 10))
 the-sum-of-five order u q =
     let x = run-counts-firings sumGraph [] start 58 in
-    let a = every-order-rests-alike sumGraph the-sum-graph-is-accepted (x .0) start last (x .1) (rests-if-none-ready sumGraph last rests-there) order u q in
+    let a = every-order-rests-alike sumGraph the-sum-graph-is-accepted (madeBy sumGraph [] start 58) start last (x .0) (rests-if-none-ready sumGraph last rests-there) order u q in
     let left = spends-58 in
-    let count : length (x .0) + runOf sumGraph [] start 58 .left ≡ 58 = x .2 in
+    let count = x .1 in
     let most = a .at-most in
-    (omega arith, λ h. (a .as-many h ∙ (let z : length (x .0) ≡ 58 = omega arith in z), ap (λ (s : List ℕ). tokenAt s 10) (a .same-words h) ∙ leaves-10))
+    (omega arith, λ h. (a .as-many h ∙ (let z : length (madeBy sumGraph [] start 58) ≡ 58 = omega arith in z), ap (λ (s : List ℕ). tokenAt s 10) (a .same-words h) ∙ leaves-10))

@@ -1,7 +1,8 @@
 -- A run is one of the orders: what its rule fires, where it ends, and how it is resumed. For any net of n nodes.
 --
---   Spends                    from one place of a run to another: a list of ready firings, as many as the allowance has lost
---   run-spends                a run's firings are the firings of its rule
+--   runMade                   the nodes that a run's rule fires, in order
+--   Spends                    from one place of a run to another by a list of ready firings, as many as the allowance has lost
+--   run-spends                so it is with a run and the nodes that its rule fires
 --   run-ends                  a run ends with nothing left or at rest
 --   enough-rests              an allowance of as many firings as some order needs to rest is enough for any run
 --   swept, resumed            where a run has ended at a sweep's start, it may be resumed as if it had not stopped
@@ -27,50 +28,71 @@ use Rattle.confluence.specs.Histories.{putAt}
 abbrev pub from : List ℕ → ℕ → At
 from s l = record { state = s; left = l }
 
+-- ---- the nodes that a run's rule fires, in order: the rule once more, with what each turn fires
+
+abbrev pub turnMade : Option (List ℕ) → ℕ → ℕ → List ℕ
+turnMade none l i = []
+turnMade (some a) zero i = []
+turnMade (some a) (suc l) i = i ∷ []
+
+unfoldable pub followMade : Net → List ℕ → At → List ℕ
+followMade N [] p = []
+followMade N (i ∷ order) p = turnMade (fire N i (p .state)) (p .left) i ++ followMade N order (turn N i p)
+
+unfoldable pub sweepMade : Net → ℕ → ℕ → At → List ℕ
+sweepMade N zero i p = []
+sweepMade N (suc m) i p = turnMade (fire N i (p .state)) (p .left) i ++ sweepMade N m (i + 1) (turn N i p)
+
+unfoldable pub sweepsMade : Net → ℕ → ℕ → At → List ℕ
+sweepsMade N zero n p = []
+sweepsMade N (suc f) n p =
+    elim (eqb (sweep N n p .left) (p .left)) [ true ↦ [] | false ↦ sweepMade N n 0 p ++ sweepsMade N f n (sweep N n p) ]
+
+unfoldable pub runMade : Net → ℕ → List ℕ → At → List ℕ
+runMade N n order p = followMade N order p ++ sweepsMade N (suc (follow N order p .left)) n (follow N order p)
+
 module _ (N : Net) where
-  pub record Spends (p q : At) : Type 0 where
-    pub made : List ℕ
+  -- from p to q by a list of ready firings, as many as the allowance has lost
+  pub record Spends (made : List ℕ) (p q : At) : Type 0 where
     pub ready : fires (fire N) made (p .state) ≡ some (q .state)
     pub count : length made + q .left ≡ p .left
 
-  spends-nothing : (p : At) → Spends p p
-  spends-nothing p = record { made = []; ready = fires-none (fire N) (p .state); count = omega arith }
+  spends-nothing : (p : At) → Spends [] p p
+  spends-nothing p = record { ready = fires-none (fire N) (p .state); count = omega arith }
 
-  spends-then : (p q r : At) → Spends p q → Spends q r → Spends p r
-  spends-then p q r x y =
+  spends-then : (made more : List ℕ) (p q r : At) → Spends made p q → Spends more q r → Spends (made ++ more) p r
+  spends-then made more p q r x y =
       let a = x .count in
       let b = y .count in
-      let c = length-append (x .made) (y .made) in
-      record {
-        made = x .made ++ y .made;
-        ready = fires-append (fire N) (x .made) (y .made) (p .state) (q .state) (r .state) (x .ready) (y .ready);
-        count = omega arith;
-      }
+      let c = length-append made more in
+      record { ready = fires-append (fire N) made more (p .state) (q .state) (r .state) (x .ready) (y .ready); count = omega arith }
 
-  no-more : (p q : At) → Spends p q → q .left ≤ p .left
+  no-more : {made : List ℕ} (p q : At) → Spends made p q → q .left ≤ p .left
   no-more p q x = let a = x .count in omega arith
 
   -- a node's turn: it fires, and one is spent; or all stays
-  turn-spends : (i : ℕ) (p : At) → Spends p (turn N i p)
+  turn-spends : (i : ℕ) (p : At) → Spends (turnMade (fire N i (p .state)) (p .left) i) p (turn N i p)
   unfolding turn
   turn-spends i p = go (fire N i (p .state)) refl (p .left)
     where
-      go : (o : Option (List ℕ)) → fire N i (p .state) ≡ o → (l : ℕ) → Spends (from (p .state) l) (turned o (p .state) l)
+      go : (o : Option (List ℕ)) → fire N i (p .state) ≡ o → (l : ℕ) → Spends (turnMade o l i) (from (p .state) l) (turned o (p .state) l)
       go none e l = spends-nothing (from (p .state) l)
       go (some a) e zero = spends-nothing (from (p .state) zero)
-      go (some a) e (suc l) =
-          record { made = i ∷ []; ready = fires-on (fire N) i [] (p .state) a e ∙ fires-none (fire N) a; count = omega arith }
+      go (some a) e (suc l) = record { ready = fires-on (fire N) i [] (p .state) a e ∙ fires-none (fire N) a; count = omega arith }
 
-  follow-spends : (order : List ℕ) (p : At) → Spends p (follow N order p)
-  unfolding follow
+  follow-spends : (order : List ℕ) (p : At) → Spends (followMade N order p) p (follow N order p)
+  unfolding follow followMade
   follow-spends [] p = spends-nothing p
-  follow-spends (i ∷ order) p = spends-then p (turn N i p) (follow N order (turn N i p)) (turn-spends i p) (follow-spends order (turn N i p))
+  follow-spends (i ∷ order) p =
+      spends-then (turnMade (fire N i (p .state)) (p .left) i) (followMade N order (turn N i p)) p (turn N i p) (follow N order (turn N i p))
+      (turn-spends i p) (follow-spends order (turn N i p))
 
-  sweep-spends : (m i : ℕ) (p : At) → Spends p (sweepFrom N m i p)
-  unfolding sweepFrom
+  sweep-spends : (m i : ℕ) (p : At) → Spends (sweepMade N m i p) p (sweepFrom N m i p)
+  unfolding sweepFrom sweepMade
   sweep-spends zero i p = spends-nothing p
   sweep-spends (suc m) i p =
-      spends-then p (turn N i p) (sweepFrom N m (i + 1) (turn N i p)) (turn-spends i p) (sweep-spends m (i + 1) (turn N i p))
+      spends-then (turnMade (fire N i (p .state)) (p .left) i) (sweepMade N m (i + 1) (turn N i p)) p (turn N i p) (sweepFrom N m (i + 1) (turn N i p))
+      (turn-spends i p) (sweep-spends m (i + 1) (turn N i p))
 
   -- a turn that spends nothing changes nothing, and its node was not ready or nothing was left
   turn-quiet : (i : ℕ) (p : At) → turn N i p .left ≡ p .left → (turn N i p ≡ p) × ((p .left ≡ 0) ⊎ (fire N i (p .state) ≡ none))
@@ -98,10 +120,6 @@ module _ (N : Net) where
         ],
       )
 
-  -- with nothing left a sweep changes nothing
-  spent-sweep : (m i : ℕ) (p : At) → p .left ≡ 0 → sweepFrom N m i p ≡ p
-  spent-sweep m i p h = let a = no-more p (sweepFrom N m i p) (sweep-spends m i p) in sweep-quiet m i p (omega arith) .0
-
   module _ (n : ℕ) where
     -- A sweep that fires nothing is the last; after one that fires, less is left.
     data Sweeping (f : ℕ) (p : At) : Type 0 where
@@ -122,20 +140,23 @@ module _ (N : Net) where
             let a = no-more p (sweep N n p) (sweep-spends n 0 p) in
             again (omega arith) (ap next e)
 
-    sweeps-spends : (f : ℕ) (p : At) → Spends p (sweeps N f n p)
-    unfolding sweeps
+    sweeps-spends : (f : ℕ) (p : At) → Spends (sweepsMade N f n p) p (sweeps N f n p)
+    unfolding sweeps sweepsMade
     sweeps-spends zero p = spends-nothing p
-    sweeps-spends (suc f) p =
-        elim (sweeping f p) [
-          | last h e ↦ subst (Spends p) (sym e) (spends-nothing p)
-          | again h e ↦ subst (Spends p) (sym e)
-              (spends-then p (sweep N n p) (sweeps N f n (sweep N n p)) (sweep-spends n 0 p) (sweeps-spends f (sweep N n p)))
-        ]
+    sweeps-spends (suc f) p = go (sweeps-spends f (sweep N n p)) (eqb (sweep N n p .left) (p .left)) refl
+      where
+        go : Spends (sweepsMade N f n (sweep N n p)) (sweep N n p) (sweeps N f n (sweep N n p)) → (b : Bool) → eqb (sweep N n p .left) (p .left) ≡ b
+            → Spends (elim b [ true ↦ [] | false ↦ sweepMade N n 0 p ++ sweepsMade N f n (sweep N n p) ]) p
+            (elim b [ true ↦ sweep N n p | false ↦ sweeps N f n (sweep N n p) ])
+        go rest true e = subst (Spends [] p) (sym (sweep-quiet n 0 p (eqb-true (sweep N n p .left) (p .left) e) .0)) (spends-nothing p)
+        go rest false e =
+            spends-then (sweepMade N n 0 p) (sweepsMade N f n (sweep N n p)) p (sweep N n p) (sweeps N f n (sweep N n p)) (sweep-spends n 0 p) rest
 
-    pub run-spends : (order : List ℕ) (p : At) → Spends p (run N n order p)
-    unfolding run finish
+    pub run-spends : (order : List ℕ) (p : At) → Spends (runMade N n order p) p (run N n order p)
+    unfolding run finish runMade
     run-spends order p =
-        spends-then p (follow N order p) (run N n order p) (follow-spends order p) (sweeps-spends (suc (follow N order p .left)) (follow N order p))
+        spends-then (followMade N order p) (sweepsMade N (suc (follow N order p .left)) n (follow N order p)) p (follow N order p) (run N n order p)
+        (follow-spends order p) (sweeps-spends (suc (follow N order p .left)) (follow N order p))
 
     -- ---- resuming
 
@@ -170,10 +191,13 @@ module _ (N : Net) where
     finish-swept zero p = refl
     finish-swept (suc k) p = finish-sweep p ∙ finish-swept k (sweep N n p)
 
-    swept-spends : (k : ℕ) (p : At) → Spends p (swept k p)
+    swept-less : (k : ℕ) (p : At) → swept k p .left ≤ p .left
     unfolding swept
-    swept-spends zero p = spends-nothing p
-    swept-spends (suc k) p = spends-then p (sweep N n p) (swept k (sweep N n p)) (sweep-spends n 0 p) (swept-spends k (sweep N n p))
+    swept-less zero p = omega arith
+    swept-less (suc k) p =
+        let a = no-more p (sweep N n p) (sweep-spends n 0 p) in
+        let b = swept-less k (sweep N n p) in
+        omega arith
 
     finish-spent : (p : At) → p .left ≡ 0 → finish N n p ≡ p
     unfolding finish
@@ -216,7 +240,7 @@ module _ (N : Net) where
     unfolding swept
     swept-more b zero p h = refl
     swept-more b (suc k) p h =
-        let a = no-more (sweep N n (more b p)) (swept n k (sweep N n (more b p))) (swept-spends n k (sweep N n (more b p))) in
+        let a = swept-less n k (sweep N n (more b p)) in
         let e = sweep-more b n 0 p (omega arith) in
         ap (swept n k) e ∙ swept-more b k (sweep N n p) (subst (λ (q : At). b ≤ swept n k q .left) e h)
 
@@ -232,7 +256,7 @@ module _ (N : Net) where
 
         lost : b ≤ follow N order (from s (a + b)) .left
         lost =
-            let x = no-more (follow N order (from s (a + b))) (swept n k (follow N order (from s (a + b)))) (swept-spends n k (follow N order (from s (a + b)))) in
+            let x = swept-less n k (follow N order (from s (a + b))) in
             let y : swept n k (follow N order (from s (a + b))) .left ≡ b = ap (λ (q : At). q .left) h in
             omega arith
 
@@ -294,56 +318,58 @@ module _ (N : Net) where
     module _ (alike : (order : List ℕ) (s t : List ℕ) → fires (fire N) order s ≡ some t → Rests (fire N) t
         → (other : List ℕ) (u : List ℕ) → fires (fire N) other s ≡ some u → Alike (fire N) (putAt N) order s t other u) where
       -- firings that end a run end at the rest of any order, if the allowance was enough for it
-      ended : (order : List ℕ) (s t : List ℕ) → fires (fire N) order s ≡ some t → Rests (fire N) t → (p q : At) → p .state ≡ s → length order ≤ p .left
-          → Spends p q → Ends q → (q .state ≡ t) × (length order + q .left ≡ p .left)
-      ended order s t r h p q e enough x ends = go ends
+      ended : (order : List ℕ) (s t : List ℕ) → fires (fire N) order s ≡ some t → Rests (fire N) t → (made : List ℕ) (l : ℕ) (q : At) → length order ≤ l
+          → Spends made (from s l) q → Ends q → (q .state ≡ t) × (length order + q .left ≡ l)
+      ended order s t r h made l q enough x ends = go ends
         where
-          same : Alike (fire N) (putAt N) order s t (x .made) (q .state)
-          same = alike order s t r h (x .made) (q .state) (subst (λ (y : List ℕ). fires (fire N) (x .made) y ≡ some (q .state)) e (x .ready))
+          same : Alike (fire N) (putAt N) order s t made (q .state)
+          same = alike order s t r h made (q .state) (x .ready)
 
-          go : Ends q → (q .state ≡ t) × (length order + q .left ≡ p .left)
+          go : Ends q → (q .state ≡ t) × (length order + q .left ≡ l)
           go (inl z) =
               let c = x .count in
-              let a = as-many-is-all (fire N) (putAt N) order s t (x .made) (q .state) same (omega arith) in
-              let l = a .0 in
+              let a = as-many-is-all (fire N) (putAt N) order s t made (q .state) same (omega arith) in
+              let m = a .0 in
               (a .1, omega arith)
-          go (inr z) = let c = x .count in let l = same .firings z in (same .end z, omega arith)
+          go (inr z) = let c = x .count in let m = same .firings z in (same .end z, omega arith)
 
       pub enough-rests : (order : List ℕ) (s t : List ℕ) → fires (fire N) order s ≡ some t → Rests (fire N) t
           → (list : List ℕ) (allowance : ℕ) → length order ≤ allowance
           → (run N n list (from s allowance) .state ≡ t) × (length order + run N n list (from s allowance) .left ≡ allowance)
       enough-rests order s t r h list allowance enough =
-          ended order s t r h (from s allowance) (run N n list (from s allowance)) refl enough (run-spends n list (from s allowance)) (run-ends list (from s allowance))
+          ended order s t r h (runMade N n list (from s allowance)) allowance (run N n list (from s allowance)) enough (run-spends n list (from s allowance)) (run-ends list (from s allowance))
 
       -- Two runs in sequence, whatever their lists and wherever the first has stopped.
       pub resumed-rests : (order : List ℕ) (s t : List ℕ) → fires (fire N) order s ≡ some t → Rests (fire N) t
           → (list list′ : List ℕ) (a b : ℕ) → length order ≤ a + b → (p q : At) → run N n list (from s a) ≡ p → run N n list′ (from (p .state) b) ≡ q
           → (q .state ≡ t) × (length order + (p .left + q .left) ≡ a + b)
       resumed-rests order s t r h list list′ a b enough p q first second =
-          let z = ended order s t r h (from s (a + b)) (from (q .state) (p .left + q .left)) refl enough both (ends (run-ends list (from s a)) (run-ends list′ (from (p .state) b))) in
-          (z .0, z .1)
+          ended order s t r h (made ++ more′) (a + b) (from (q .state) (p .left + q .left)) enough both
+          (ends (run-ends list (from s a)) (run-ends list′ (from (p .state) b)))
         where
-          x : Spends (from s a) p
-          x = subst (Spends (from s a)) first (run-spends n list (from s a))
+          made : List ℕ
+          made = runMade N n list (from s a)
 
-          y : Spends (from (p .state) b) q
-          y = subst (Spends (from (p .state) b)) second (run-spends n list′ (from (p .state) b))
+          more′ : List ℕ
+          more′ = runMade N n list′ (from (p .state) b)
 
-          both : Spends (from s (a + b)) (from (q .state) (p .left + q .left))
+          x : Spends made (from s a) p
+          x = subst (Spends made (from s a)) first (run-spends n list (from s a))
+
+          y : Spends more′ (from (p .state) b) q
+          y = subst (Spends more′ (from (p .state) b)) second (run-spends n list′ (from (p .state) b))
+
+          both : Spends (made ++ more′) (from s (a + b)) (from (q .state) (p .left + q .left))
           both =
               let c = x .count in
               let d = y .count in
-              let m = length-append (x .made) (y .made) in
-              record {
-                made = x .made ++ y .made;
-                ready = fires-append (fire N) (x .made) (y .made) s (p .state) (q .state) (x .ready) (y .ready);
-                count = omega arith;
-              }
+              let m = length-append made more′ in
+              record { ready = fires-append (fire N) made more′ s (p .state) (q .state) (x .ready) (y .ready); count = omega arith }
 
           -- what starts at rest stays
           stays : Rests (fire N) (p .state) → Rests (fire N) (q .state)
           stays k =
-              let e = rest-ends (fire N) (y .made) (p .state) (q .state) k (y .ready) in
+              let e = rest-ends (fire N) more′ (p .state) (q .state) k (y .ready) in
               subst (Rests (fire N)) (fires-end (fire N) (p .state) (q .state) (subst (λ (l : List ℕ). fires (fire N) l (p .state) ≡ some (q .state)) e (y .ready))) k
 
           ends : Ends (run N n list (from s a)) → Ends (run N n list′ (from (p .state) b)) → Ends (from (q .state) (p .left + q .left))

@@ -7,8 +7,8 @@
 --   none-rests-without-bound  if there is no bound on their lengths, none rests
 --   every-wire-balances       what stood on a wire and was put on it is what was taken from it and stands there
 --   stage-fires               different nodes that are all ready fire in any order of them, and the end is the pointwise update
---   run-counts-firings        what a run's allowance has lost is the number of ready firings that it made
---   run-is-an-order           a run that is not SPENT is one of the orders that rest
+--   run-counts-firings        what a run's allowance has lost is the number of firings that its rule makes, each ready in its turn
+--   run-is-an-order           a run that is not SPENT is so one of the orders that rest
 --   spent-exactly             SPENT is answered exactly if a node is ready, and then nothing is left
 --   enough-is-not-spent       an allowance of as many firings as some order needs is enough for a run with any list
 --   runs-end-alike            so any two runs of one state with enough allowance end alike, whatever their lists
@@ -45,7 +45,7 @@ use Rattle.confluence.specs.Wired.{Commute, ready-nodes-commute}
 use Rattle.confluence.specs.Histories.{putAt, historyOf, net-rests-alike}
 use Rattle.confluence.specs.Ledger.{stands, takenOf, ledger}
 use Rattle.confluence.specs.Stage.{Among, Once, Staged, stage}
-use Rattle.confluence.specs.Runs.{from, run-spends, run-ends, enough-rests, swept, resumed, resumed-rests}
+use Rattle.confluence.specs.Runs.{from, runMade, run-spends, run-ends, enough-rests, swept, resumed, resumed-rests}
 use Rattle.confluence.specs.Graphs.{nodes-are-local, accepted-is-wired, none-past-last, ready-is-a-node, spent-if-ready, ready-if-spent, rests-unless-spent, not-spent-at-rest}
 
 abbrev pub Fires : List ℕ → List ℕ → List ℕ → List ℕ → Type 0
@@ -70,6 +70,10 @@ pub record RestsAlike (g order s t other u : List ℕ) : Type 0 where
 -- the run of s with a list and an allowance
 abbrev pub runOf : List ℕ → List ℕ → List ℕ → ℕ → At
 runOf g list s allowance = run (netOf g) (nodeCount g) list (from s allowance)
+
+-- the nodes that the rule of that run fires, in order
+abbrev pub madeBy : List ℕ → List ℕ → List ℕ → ℕ → List ℕ
+madeBy g list s allowance = runMade (netOf g) (nodeCount g) list (from s allowance)
 
 module _ (g : List ℕ) (accepted : graphRefusal g ≡ 0) where
   pub graph-nodes-commute : (i j : ℕ) (s a b : List ℕ) → i ≢ j → fire (netOf g) i s ≡ some a → fire (netOf g) j s ≡ some b → Commute (netOf g) i j s a b
@@ -110,17 +114,21 @@ module _ (g : List ℕ) (accepted : graphRefusal g ≡ 0) where
 
 -- ---- runs
 
--- A COMPLETE, ZERO STEP or STRANDED answer comes from a list of ready firings that rests, as many as the allowance has lost.
-pub run-is-an-order : (g list s : List ℕ) (allowance : ℕ) → outcome g (runOf g list s allowance .state) .answer ≢ SPENT
-    → (made : List ℕ) × Fires g made s (runOf g list s allowance .state) × AtRest g (runOf g list s allowance .state) × (length made + runOf g list s allowance .left ≡ allowance)
-run-is-an-order g list s allowance n =
-    let x = run-spends (netOf g) (nodeCount g) list (from s allowance) in
-    (x .made, x .ready, rests-unless-spent g (runOf g list s allowance .state) n, x .count)
-
--- Any run, whatever its answer, makes as many ready firings as its allowance has lost.
+-- Any run, whatever its answer: the nodes that its rule fires are ready in their turns, lead from its first state to its last, and are as many as
+-- the allowance has lost.
 pub run-counts-firings : (g list s : List ℕ) (allowance : ℕ)
-    → (made : List ℕ) × Fires g made s (runOf g list s allowance .state) × (length made + runOf g list s allowance .left ≡ allowance)
-run-counts-firings g list s allowance = let x = run-spends (netOf g) (nodeCount g) list (from s allowance) in (x .made, x .ready, x .count)
+    → Fires g (madeBy g list s allowance) s (runOf g list s allowance .state)
+    × (length (madeBy g list s allowance) + runOf g list s allowance .left ≡ allowance)
+run-counts-firings g list s allowance = let x = run-spends (netOf g) (nodeCount g) list (from s allowance) in (x .ready, x .count)
+
+-- A COMPLETE, ZERO STEP or STRANDED answer comes from a list of ready firings that rests: those nodes.
+pub run-is-an-order : (g list s : List ℕ) (allowance : ℕ) → outcome g (runOf g list s allowance .state) .answer ≢ SPENT
+    → Fires g (madeBy g list s allowance) s (runOf g list s allowance .state)
+    × AtRest g (runOf g list s allowance .state)
+    × (length (madeBy g list s allowance) + runOf g list s allowance .left ≡ allowance)
+run-is-an-order g list s allowance n =
+    let x = run-counts-firings g list s allowance in
+    (x .0, rests-unless-spent g (runOf g list s allowance .state) n, x .1)
 
 pub spent-exactly : (g list s : List ℕ) (allowance : ℕ) → let p = runOf g list s allowance in
     (outcome g (p .state) .answer ≡ SPENT → (anyReady (netOf g) (nodeCount g) (p .state) ≡ true) × (p .left ≡ 0))
@@ -142,9 +150,9 @@ pub runs-end-alike : (g : List ℕ) → graphRefusal g ≡ 0 → (s list : List 
     × (outcome g (runOf g list′ s allowance′ .state) ≡ outcome g (runOf g list s allowance .state))
 runs-end-alike g accepted s list allowance n list′ allowance′ enough =
     let x = run-is-an-order g list s allowance n in
-    let count : length (x .0) + runOf g list s allowance .left ≡ allowance = x .3 in
-    let y = enough-is-not-spent g accepted (x .0) s (runOf g list s allowance .state) (x .1) (x .2) list′ allowance′ (omega arith) in
-    let count′ : length (x .0) + runOf g list′ s allowance′ .left ≡ allowance′ = y .1 in
+    let count = x .2 in
+    let y = enough-is-not-spent g accepted (madeBy g list s allowance) s (runOf g list s allowance .state) (x .0) (x .1) list′ allowance′ (omega arith) in
+    let count′ = y .1 in
     (y .0, omega arith, ap (outcome g) (y .0))
 
 -- With the allowance a + b, the list and k whole sweeps leave b, in the state t: there a run with a stops, and from there one with b goes on.
