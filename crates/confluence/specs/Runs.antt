@@ -1,15 +1,13 @@
--- A run is one of the orders: what its rule fires, where it ends, and how it is resumed. For any net of n nodes.
+-- A run is one of the orders: what its rule fires, and where it ends. For any net of n nodes.
 --
 --   runMade                   the nodes that a run's rule fires, in order
 --   Spends                    from one place of a run to another by a list of ready firings, as many as the allowance has lost
 --   run-spends                so it is with a run and the nodes that its rule fires
 --   run-ends                  a run ends with nothing left or at rest
 --   enough-rests              an allowance of as many firings as some order needs to rest is enough for any run
---   swept, resumed            where a run has ended at a sweep's start, it may be resumed as if it had not stopped
---   resumed-rests             and wherever it has ended, if there is enough for the rest
 --
 -- Assumes nothing.
-use mathlib.Core.Path.{_≡_, refl, sym, ap, ap₂, _∙_, subst}
+use mathlib.Core.Path.{_≡_, refl, sym, ap, _∙_, subst}
 use mathlib.Core.Logic.{_≢_, _⊎_, inl, inr}
 use mathlib.Core.Bool.{Bool, true, false}
 use mathlib.Core.Option.{Option, none, some}
@@ -22,7 +20,7 @@ use lib.Dec.{eqb}
 use lib.ListN.{length, length-append}
 use Rattle.state.specs.Net.{Net, fire}
 use Rattle.state.specs.Run.{At, turned, turn, follow, sweepFrom, sweep, sweeps, finish, run}
-use Rattle.confluence.specs.Orders.{fires, fires-none, fires-on, fires-append, Rests, rest-ends, fires-end, Alike, as-many-is-all}
+use Rattle.confluence.specs.Orders.{fires, fires-none, fires-on, fires-append, Rests, Alike, as-many-is-all}
 use Rattle.confluence.specs.Histories.{putAt}
 
 abbrev pub from : List ℕ → ℕ → At
@@ -57,21 +55,21 @@ module _ (N : Net) where
     pub ready : fires (fire N) made (p .state) ≡ some (q .state)
     pub count : length made + q .left ≡ p .left
 
-  spends-nothing : (p : At) → Spends [] p p
+  pub spends-nothing : (p : At) → Spends [] p p
   spends-nothing p = record { ready = fires-none (fire N) (p .state); count = omega arith }
 
-  spends-then : (made more : List ℕ) (p q r : At) → Spends made p q → Spends more q r → Spends (made ++ more) p r
+  pub spends-then : (made more : List ℕ) (p q r : At) → Spends made p q → Spends more q r → Spends (made ++ more) p r
   spends-then made more p q r x y =
       let a = x .count in
       let b = y .count in
       let c = length-append made more in
       record { ready = fires-append (fire N) made more (p .state) (q .state) (r .state) (x .ready) (y .ready); count = omega arith }
 
-  no-more : {made : List ℕ} (p q : At) → Spends made p q → q .left ≤ p .left
+  pub no-more : {made : List ℕ} (p q : At) → Spends made p q → q .left ≤ p .left
   no-more p q x = let a = x .count in omega arith
 
   -- a node's turn: it fires, and one is spent; or all stays
-  turn-spends : (i : ℕ) (p : At) → Spends (turnMade (fire N i (p .state)) (p .left) i) p (turn N i p)
+  pub turn-spends : (i : ℕ) (p : At) → Spends (turnMade (fire N i (p .state)) (p .left) i) p (turn N i p)
   unfolding turn
   turn-spends i p = go (fire N i (p .state)) refl (p .left)
     where
@@ -80,14 +78,14 @@ module _ (N : Net) where
       go (some a) e zero = spends-nothing (from (p .state) zero)
       go (some a) e (suc l) = record { ready = fires-on (fire N) i [] (p .state) a e ∙ fires-none (fire N) a; count = omega arith }
 
-  follow-spends : (order : List ℕ) (p : At) → Spends (followMade N order p) p (follow N order p)
+  pub follow-spends : (order : List ℕ) (p : At) → Spends (followMade N order p) p (follow N order p)
   unfolding follow followMade
   follow-spends [] p = spends-nothing p
   follow-spends (i ∷ order) p =
       spends-then (turnMade (fire N i (p .state)) (p .left) i) (followMade N order (turn N i p)) p (turn N i p) (follow N order (turn N i p))
       (turn-spends i p) (follow-spends order (turn N i p))
 
-  sweep-spends : (m i : ℕ) (p : At) → Spends (sweepMade N m i p) p (sweepFrom N m i p)
+  pub sweep-spends : (m i : ℕ) (p : At) → Spends (sweepMade N m i p) p (sweepFrom N m i p)
   unfolding sweepFrom sweepMade
   sweep-spends zero i p = spends-nothing p
   sweep-spends (suc m) i p =
@@ -104,7 +102,7 @@ module _ (N : Net) where
       go (some a) zero h = (refl, inl refl)
       go (some a) (suc l) h = absurd (omega arith)
 
-  sweep-quiet : (m i : ℕ) (p : At) → sweepFrom N m i p .left ≡ p .left
+  pub sweep-quiet : (m i : ℕ) (p : At) → sweepFrom N m i p .left ≡ p .left
       → (sweepFrom N m i p ≡ p) × ((j : ℕ) → i ≤ j → j < i + m → (p .left ≡ 0) ⊎ (fire N j (p .state) ≡ none))
   unfolding sweepFrom
   sweep-quiet zero i p h = (refl, λ j a b. absurd (omega arith))
@@ -122,11 +120,11 @@ module _ (N : Net) where
 
   module _ (n : ℕ) where
     -- A sweep that fires nothing is the last; after one that fires, less is left.
-    data Sweeping (f : ℕ) (p : At) : Type 0 where
+    pub data Sweeping (f : ℕ) (p : At) : Type 0 where
       last : sweep N n p .left ≡ p .left → sweeps N (suc f) n p ≡ p → Sweeping f p
       again : sweep N n p .left < p .left → sweeps N (suc f) n p ≡ sweeps N f n (sweep N n p) → Sweeping f p
 
-    sweeping : (f : ℕ) (p : At) → Sweeping f p
+    pub sweeping : (f : ℕ) (p : At) → Sweeping f p
     unfolding sweeps
     sweeping f p = go (eqb (sweep N n p .left) (p .left)) refl
       where
@@ -157,128 +155,6 @@ module _ (N : Net) where
     run-spends order p =
         spends-then (followMade N order p) (sweepsMade N (suc (follow N order p .left)) n (follow N order p)) p (follow N order p) (run N n order p)
         (follow-spends order p) (sweeps-spends (suc (follow N order p .left)) (follow N order p))
-
-    -- ---- resuming
-
-    -- more sweeps than what is left, and one, change nothing
-    sweeps-enough : (f g : ℕ) (p : At) → p .left < f → p .left < g → sweeps N f n p ≡ sweeps N g n p
-    sweeps-enough zero g p a b = absurd (omega arith)
-    sweeps-enough (suc f) zero p a b = absurd (omega arith)
-    sweeps-enough (suc f) (suc g) p a b =
-        elim (sweeping f p) [
-          | last h e ↦ elim (sweeping g p) [ last k d ↦ e ∙ sym d | again k d ↦ absurd (omega arith) ]
-          | again h e ↦ elim (sweeping g p) [
-            | last k d ↦ absurd (omega arith)
-            | again k d ↦ e ∙ sweeps-enough f g (sweep N n p) (omega arith) (omega arith) ∙ sym d
-          ]
-        ]
-
-    finish-sweep : (p : At) → finish N n p ≡ finish N n (sweep N n p)
-    unfolding finish
-    finish-sweep p =
-        elim (sweeping (p .left) p) [
-          | last h e ↦ ap (λ (q : At). sweeps N (suc (q .left)) n q) (sym (sweep-quiet n 0 p h .0))
-          | again h e ↦ e ∙ sweeps-enough (p .left) (suc (sweep N n p .left)) (sweep N n p) (omega arith) (omega arith)
-        ]
-
-    -- k whole sweeps
-    unfoldable pub swept : ℕ → At → At
-    swept zero p = p
-    swept (suc k) p = swept k (sweep N n p)
-
-    finish-swept : (k : ℕ) (p : At) → finish N n p ≡ finish N n (swept k p)
-    unfolding swept
-    finish-swept zero p = refl
-    finish-swept (suc k) p = finish-sweep p ∙ finish-swept k (sweep N n p)
-
-    swept-less : (k : ℕ) (p : At) → swept k p .left ≤ p .left
-    unfolding swept
-    swept-less zero p = omega arith
-    swept-less (suc k) p =
-        let a = no-more p (sweep N n p) (sweep-spends n 0 p) in
-        let b = swept-less k (sweep N n p) in
-        omega arith
-
-    finish-spent : (p : At) → p .left ≡ 0 → finish N n p ≡ p
-    unfolding finish
-    finish-spent p h = elim (sweeping (p .left) p) [ last k e ↦ e | again k e ↦ absurd (omega arith) ]
-
-  -- the same place with b more
-  abbrev more : ℕ → At → At
-  more b p = from (p .state) (p .left + b)
-
-  -- a walk that leaves b of its allowance makes no use of that b
-  turn-more : (b i : ℕ) (p : At) → b ≤ turn N i (more b p) .left → turn N i (more b p) ≡ more b (turn N i p)
-  unfolding turn
-  turn-more b i p h = go (fire N i (p .state)) (p .left) (p .left + b) refl h
-    where
-      go : (o : Option (List ℕ)) (l lb : ℕ) → lb ≡ l + b → b ≤ turned o (p .state) lb .left → turned o (p .state) lb ≡ more b (turned o (p .state) l)
-      go none l lb e h = ap (from (p .state)) e
-      go (some a) zero zero e h = ap (from (p .state)) e
-      go (some a) zero (suc lb) e h = absurd (omega arith)
-      go (some a) (suc l) zero e h = absurd (omega arith)
-      go (some a) (suc l) (suc lb) e h = ap (from a) (omega arith)
-
-  follow-more : (b : ℕ) (order : List ℕ) (p : At) → b ≤ follow N order (more b p) .left → follow N order (more b p) ≡ more b (follow N order p)
-  unfolding follow
-  follow-more b [] p h = refl
-  follow-more b (i ∷ order) p h =
-      let a = no-more (turn N i (more b p)) (follow N order (turn N i (more b p))) (follow-spends order (turn N i (more b p))) in
-      let e = turn-more b i p (omega arith) in
-      ap (follow N order) e ∙ follow-more b order (turn N i p) (subst (λ (q : At). b ≤ follow N order q .left) e h)
-
-  sweep-more : (b m i : ℕ) (p : At) → b ≤ sweepFrom N m i (more b p) .left → sweepFrom N m i (more b p) ≡ more b (sweepFrom N m i p)
-  unfolding sweepFrom
-  sweep-more b zero i p h = refl
-  sweep-more b (suc m) i p h =
-      let a = no-more (turn N i (more b p)) (sweepFrom N m (i + 1) (turn N i (more b p))) (sweep-spends m (i + 1) (turn N i (more b p))) in
-      let e = turn-more b i p (omega arith) in
-      ap (sweepFrom N m (i + 1)) e ∙ sweep-more b m (i + 1) (turn N i p) (subst (λ (q : At). b ≤ sweepFrom N m (i + 1) q .left) e h)
-
-  module _ (n : ℕ) where
-    swept-more : (b k : ℕ) (p : At) → b ≤ swept n k (more b p) .left → swept n k (more b p) ≡ more b (swept n k p)
-    unfolding swept
-    swept-more b zero p h = refl
-    swept-more b (suc k) p h =
-        let a = swept-less n k (sweep N n (more b p)) in
-        let e = sweep-more b n 0 p (omega arith) in
-        ap (swept n k) e ∙ swept-more b k (sweep N n p) (subst (λ (q : At). b ≤ swept n k q .left) e h)
-
-    -- With the allowance a + b the list and k whole sweeps leave b, in the state t. Then a run with a alone stops there; and one with b, and no
-    -- list, goes on from there as the run with a + b does.
-    pub resumed : (order : List ℕ) (s t : List ℕ) (a b k : ℕ) → swept n k (follow N order (from s (a + b))) ≡ from t b
-        → (run N n order (from s a) ≡ from t 0) × (run N n order (from s (a + b)) ≡ run N n [] (from t b))
-    unfolding run follow
-    resumed order s t a b k h = (first, second)
-      where
-        p : At
-        p = follow N order (from s a)
-
-        lost : b ≤ follow N order (from s (a + b)) .left
-        lost =
-            let x = swept-less n k (follow N order (from s (a + b))) in
-            let y : swept n k (follow N order (from s (a + b))) .left ≡ b = ap (λ (q : At). q .left) h in
-            omega arith
-
-        followed : follow N order (from s (a + b)) ≡ more b p
-        followed = follow-more b order (from s a) lost
-
-        whole : swept n k (more b p) ≡ from t b
-        whole = ap (swept n k) (sym followed) ∙ h
-
-        part : more b (swept n k p) ≡ from t b
-        part = sym (swept-more b k p (let y : swept n k (more b p) .left ≡ b = ap (λ (q : At). q .left) whole in omega arith)) ∙ whole
-
-        here : swept n k p ≡ from t 0
-        here =
-            let l : swept n k p .left + b ≡ b = ap (λ (q : At). q .left) part in
-            ap₂ from (ap (λ (q : At). q .state) part) (let z : swept n k p .left ≡ 0 = omega arith in z)
-
-        first : finish N n p ≡ from t 0
-        first = finish-swept n k p ∙ ap (finish N n) here ∙ finish-spent n (from t 0) refl
-
-        second : finish N n (follow N order (from s (a + b))) ≡ finish N n (follow N [] (from t b))
-        second = finish-swept n k (follow N order (from s (a + b))) ∙ ap (finish N n) h
 
   -- ---- where a run ends
 
@@ -318,7 +194,7 @@ module _ (N : Net) where
     module _ (alike : (order : List ℕ) (s t : List ℕ) → fires (fire N) order s ≡ some t → Rests (fire N) t
         → (other : List ℕ) (u : List ℕ) → fires (fire N) other s ≡ some u → Alike (fire N) (putAt N) order s t other u) where
       -- firings that end a run end at the rest of any order, if the allowance was enough for it
-      ended : (order : List ℕ) (s t : List ℕ) → fires (fire N) order s ≡ some t → Rests (fire N) t → (made : List ℕ) (l : ℕ) (q : At) → length order ≤ l
+      pub ended : (order : List ℕ) (s t : List ℕ) → fires (fire N) order s ≡ some t → Rests (fire N) t → (made : List ℕ) (l : ℕ) (q : At) → length order ≤ l
           → Spends made (from s l) q → Ends q → (q .state ≡ t) × (length order + q .left ≡ l)
       ended order s t r h made l q enough x ends = go ends
         where
@@ -338,44 +214,3 @@ module _ (N : Net) where
           → (run N n list (from s allowance) .state ≡ t) × (length order + run N n list (from s allowance) .left ≡ allowance)
       enough-rests order s t r h list allowance enough =
           ended order s t r h (runMade N n list (from s allowance)) allowance (run N n list (from s allowance)) enough (run-spends n list (from s allowance)) (run-ends list (from s allowance))
-
-      -- Two runs in sequence, whatever their lists and wherever the first has stopped.
-      pub resumed-rests : (order : List ℕ) (s t : List ℕ) → fires (fire N) order s ≡ some t → Rests (fire N) t
-          → (list list′ : List ℕ) (a b : ℕ) → length order ≤ a + b → (p q : At) → run N n list (from s a) ≡ p → run N n list′ (from (p .state) b) ≡ q
-          → (q .state ≡ t) × (length order + (p .left + q .left) ≡ a + b)
-      resumed-rests order s t r h list list′ a b enough p q first second =
-          ended order s t r h (made ++ more′) (a + b) (from (q .state) (p .left + q .left)) enough both
-          (ends (run-ends list (from s a)) (run-ends list′ (from (p .state) b)))
-        where
-          made : List ℕ
-          made = runMade N n list (from s a)
-
-          more′ : List ℕ
-          more′ = runMade N n list′ (from (p .state) b)
-
-          x : Spends made (from s a) p
-          x = subst (Spends made (from s a)) first (run-spends n list (from s a))
-
-          y : Spends more′ (from (p .state) b) q
-          y = subst (Spends more′ (from (p .state) b)) second (run-spends n list′ (from (p .state) b))
-
-          both : Spends (made ++ more′) (from s (a + b)) (from (q .state) (p .left + q .left))
-          both =
-              let c = x .count in
-              let d = y .count in
-              let m = length-append made more′ in
-              record { ready = fires-append (fire N) made more′ s (p .state) (q .state) (x .ready) (y .ready); count = omega arith }
-
-          -- what starts at rest stays
-          stays : Rests (fire N) (p .state) → Rests (fire N) (q .state)
-          stays k =
-              let e = rest-ends (fire N) more′ (p .state) (q .state) k (y .ready) in
-              subst (Rests (fire N)) (fires-end (fire N) (p .state) (q .state) (subst (λ (l : List ℕ). fires (fire N) l (p .state) ≡ some (q .state)) e (y .ready))) k
-
-          ends : Ends (run N n list (from s a)) → Ends (run N n list′ (from (p .state) b)) → Ends (from (q .state) (p .left + q .left))
-          ends u v = go (subst Ends first u) (subst Ends second v)
-            where
-              go : Ends p → Ends q → Ends (from (q .state) (p .left + q .left))
-              go (inl i) (inl j) = inl (omega arith)
-              go (inl i) (inr j) = inr j
-              go (inr i) j = inr (stays i)

@@ -23,7 +23,7 @@
 -- theorem says what stands somewhere afterwards, the state must be long enough to have that place.
 --
 -- For any net of local nodes, another edition's or two graphs side by side: ready-nodes-commute (Wired), net-rests-alike (Histories), ledger
--- (Ledger), stage (Stage), and the theorems of Runs.
+-- (Ledger), stage (Stage), and the theorems of Runs and Resuming.
 -- That none of this is idle is shown in NotIdle: a loaded graph on which these theorems speak of 58 firings.
 -- Assumes nothing.
 use mathlib.Core.Path.{_≡_, refl, sym, ap, _∙_, subst}
@@ -45,7 +45,8 @@ use Rattle.confluence.specs.Wired.{Commute, ready-nodes-commute}
 use Rattle.confluence.specs.Histories.{putAt, historyOf, net-rests-alike}
 use Rattle.confluence.specs.Ledger.{stands, takenOf, ledger}
 use Rattle.confluence.specs.Stage.{Among, Once, Staged, stage}
-use Rattle.confluence.specs.Runs.{from, runMade, run-spends, run-ends, enough-rests, swept, resumed, resumed-rests}
+use Rattle.confluence.specs.Runs.{from, runMade, run-spends, run-ends, enough-rests}
+use Rattle.confluence.specs.Resuming.{swept, resumed, resumed-rests}
 use Rattle.confluence.specs.Graphs.{nodes-are-local, accepted-is-wired, none-past-last, ready-is-a-node, spent-if-ready, ready-if-spent, rests-unless-spent, not-spent-at-rest}
 
 abbrev pub Fires : List ℕ → List ℕ → List ℕ → List ℕ → Type 0
