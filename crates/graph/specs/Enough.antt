@@ -27,7 +27,7 @@ every-from test zero from h = refl
 every-from test (suc m) from h =
     rw (h from (omega arith) (omega arith)) (every-from test m (from + 1) (λ i l u. h i (omega arith) (omega arith)))
 
-every-one : (test : ℕ → Bool) (n : ℕ) → ((i : ℕ) → i < n → test i ≡ true) → every n test ≡ true
+pub every-one : (test : ℕ → Bool) (n : ℕ) → ((i : ℕ) → i < n → test i ≡ true) → every n test ≡ true
 every-one test n h = every-from test n 0 (λ i l u. h i (omega arith))
 
 every-input : (test : Input → Bool) → ((k : Input) → test k ≡ true) → everyInput test ≡ true
