@@ -22,10 +22,9 @@ use Rattle.step.specs.Kinds.{Input, in0, in1, in2}
 use Rattle.step.specs.Firing.{Effect, takes}
 use Rattle.step.specs.Locality.{Local}
 use Rattle.graph.specs.Graph.{listed}
-use Rattle.state.specs.State.{fullPlace, wordPlace, token, isEmpty, tokenAt, stored}
+use Rattle.state.specs.State.{fullPlace, wordPlace, token, isEmpty, tokenAt, stored, length-stored}
 use Rattle.state.specs.Net.{Net, effectAt, stores, fire}
 use Rattle.confluence.specs.Orders.{fires, fires-first, fires-end, history, history-on, history-none}
-use Rattle.confluence.specs.Places.{length-stored}
 use Rattle.confluence.specs.Wired.{Wired, effect-of, given-empty, taken-not-given}
 use Rattle.confluence.specs.Histories.{puts, putAt, historyOf, puts-given, puts-nothing}
 use Rattle.confluence.specs.Update.{Touch, takes-it, gives-it, leaves-it, touch, taken-after, given-after, still-after}

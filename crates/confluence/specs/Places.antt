@@ -44,10 +44,6 @@ Off p xs = Each (λ q v. p ≢ q) xs
 abbrev pub Apart : Stores → Stores → Type 0
 Apart xs ys = Each (λ p v. Off p ys) xs
 
-pub length-stored : (xs : Stores) (s : List ℕ) → length (stored xs s) ≡ length s
-length-stored [] s = refl
-length-stored (x ∷ xs) s = length-stored xs (set s (x .0) (x .1)) ∙ length-set s (x .0) (x .1)
-
 pub stored-other : (xs : Stores) (s : List ℕ) (p : ℕ) → Off p xs → getD (stored xs s) p 0 ≡ getD s p 0
 stored-other [] s p h = refl
 stored-other (x ∷ xs) s p h = stored-other xs (set s (x .0) (x .1)) p (h .1) ∙ getD-set-other s (x .0) p (x .1) 0 (h .0)

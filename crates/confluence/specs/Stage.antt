@@ -18,10 +18,9 @@ use lib.ListN.{length}
 use Rattle.step.specs.Kinds.{Input, Output}
 use Rattle.step.specs.Firing.{Effect, takes, gives}
 use Rattle.step.specs.Locality.{Local}
-use Rattle.state.specs.State.{recordPlace, recordAt, stored}
+use Rattle.state.specs.State.{recordPlace, recordAt, stored, length-stored}
 use Rattle.state.specs.Net.{Net, effectAt, stores, fire}
 use Rattle.confluence.specs.Orders.{fires, fires-none, fires-on, history-none, history-on}
-use Rattle.confluence.specs.Places.{length-stored}
 use Rattle.confluence.specs.Wired.{Wired, fired, other-stays, taken-not-given}
 use Rattle.confluence.specs.Histories.{puts, putBy, putAt, historyOf, puts-given, puts-nothing}
 use Rattle.confluence.specs.Update.{wireAt, Untouched, taken-after, given-after, still-after, left-after, own-after}

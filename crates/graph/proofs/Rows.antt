@@ -12,7 +12,8 @@ use lib.Dec.{eqb, ltb}
 use lib.ListN.{getD}
 use Rattle.word.specs.Words.{pick}
 use Rattle.step.specs.Kinds.{Kind, kindOf, inputs, outputs, codes, ownSorts, Input, in0, in1, in2, STREAM, GATE, CARRY, INVARIANT, SPLIT, FORK, DRAIN, OP, PICK}
-use Rattle.graph.specs.Below.{both-true}
+use Rattle.graph.specs.Below.{}
+use Rattle.step.specs.Kept.{and-true}
 use Rattle.graph.specs.Graph.{absent, startKindAt, startWordAt, inputsBefore, nodeCount, rowPlace, nodeOf, rowAt, nodeAt, inputPlace, column, outputCount, listed, nodeReads}
 use Rattle.graph.specs.Refusal.{startRight, rowRight, rowBelow}
 
@@ -129,8 +130,8 @@ module _ (g : List ℕ) (i p : ℕ) (h : i < nodeCount g) (e : p ≡ rowPlace g 
   each-below wires m em b =
       let o = kindOf (getD g p 0) in
       let all = sym (below-at wires) ∙ b in
-      let three = both-true (belowAt o in0 (getD g (p + 3) 0) wires) (belowAt o in1 (getD g (p + 4) 0) wires && belowAt o in2 (getD g (p + 5) 0) wires) all in
-      let two = both-true (belowAt o in1 (getD g (p + 4) 0) wires) (belowAt o in2 (getD g (p + 5) 0) wires) (three .1) in
+      let three = and-true (belowAt o in0 (getD g (p + 3) 0) wires) (belowAt o in1 (getD g (p + 4) 0) wires && belowAt o in2 (getD g (p + 5) 0) wires) all in
+      let two = and-true (belowAt o in1 (getD g (p + 4) 0) wires) (belowAt o in2 (getD g (p + 5) 0) wires) (three .1) in
       rw em (where-has (ltb 0 (column inputs o)) (three .0), where-has (ltb 1 (column inputs o)) (two .0), where-has (ltb 2 (column inputs o)) (two .1))
 
   pub below-to-the-last : (wires : ℕ) {m : ℕ} {b0 b1 b2 : Bool} → m ≡ column inputs (kindOf (getD g p 0))

@@ -17,7 +17,8 @@ use lib.Dec.{eqb, ltb}
 use lib.ListN.{getD}
 use Rattle.word.specs.Words.{pick}
 use Rattle.step.specs.Kinds.{outputs, codes, ownSorts, inputSort, Input, in0, in1, in2}
-use Rattle.graph.specs.Below.{every, every-each, both-true, times}
+use Rattle.graph.specs.Below.{every, every-each, times}
+use Rattle.step.specs.Kept.{and-true}
 use Rattle.graph.specs.Graph.{absent, nodeCount, wireCount, startCount, resultCount, startKindAt, startWordAt, inputsBefore, resultAt, rowPlace, Node, rowAt, nodeAt, hasInput, wireOn, inputOf, inputAt, firstAt, reads, wireSorts, sortAt}
 use Rattle.graph.specs.Refusal.{hasShape, Shaped, shaped, startRight, everyInput, spareInput, firstOutput, rowRight, rowsRight, start-is-right, node-is-right, wires-are-all-outputs, inputBelow, rowBelow, wiresBelow, node-is-below, result-is-below, onceRead, readOnce, inputSorted, rowSorted, nodeSorted, resultSorted, sortsAgree, graphRefusal}
 
@@ -66,9 +67,9 @@ input-of-node (some nd) k w e = let p = picked (hasInput (nd .kind) k) (wireOn n
 -- ---- one row
 
 each-input : (test : Input → Bool) → everyInput test ≡ true → (k : Input) → test k ≡ true
-each-input test e in0 = both-true (test in0) _ e .0
-each-input test e in1 = both-true (test in1) (test in2) (both-true (test in0) _ e .1) .0
-each-input test e in2 = both-true (test in1) (test in2) (both-true (test in0) _ e .1) .1
+each-input test e in0 = and-true (test in0) _ e .0
+each-input test e in1 = and-true (test in1) (test in2) (and-true (test in0) _ e .1) .0
+each-input test e in2 = and-true (test in1) (test in2) (and-true (test in0) _ e .1) .1
 
 spare-is-absent : (b : Bool) (w : ℕ) → pick b true (eqb w absent) ≡ true → b ≡ false → w ≡ absent
 spare-is-absent true w e f = let z : _≡_ {A = ℕ} 0 1 = cc in absurd (omega arith)
@@ -78,9 +79,9 @@ right-row : (g : List ℕ) (i : ℕ) (o : Option Node) → nodeAt g i ≡ o → 
 unfolding rowRight
 right-row g i none e t = let z : _≡_ {A = ℕ} 0 1 = cc in absurd (omega arith)
 right-row g i (some nd) e t =
-    let p0 = both-true (ltb (nd .code) (codes (nd .kind))) _ t in
-    let p1 = both-true (ltb (nd .sort) (ownSorts (nd .kind))) _ (p0 .1) in
-    let p2 = both-true (everyInput (λ k. spareInput (nd .kind) k (wireOn nd k))) _ (p1 .1) in
+    let p0 = and-true (ltb (nd .code) (codes (nd .kind))) _ t in
+    let p1 = and-true (ltb (nd .sort) (ownSorts (nd .kind))) _ (p0 .1) in
+    let p2 = and-true (everyInput (λ k. spareInput (nd .kind) k (wireOn nd k))) _ (p1 .1) in
     let first : nd .first ≡ firstOutput (nd .kind) (firstAt g i) = eqb-true _ _ (p2 .1) in
     record {
       node = nd;
@@ -153,7 +154,7 @@ pub accepted : (g : List ℕ) → graphRefusal g ≡ 0 → Accepted g
 unfolding readOnce sortsAgree
 accepted g e =
     let t = passed g e in
-    let sorts = both-true (every (nodeCount g) (nodeSorted g)) (every (resultCount g) (resultSorted g)) (t .sorts) in
+    let sorts = and-true (every (nodeCount g) (nodeSorted g)) (every (resultCount g) (resultSorted g)) (t .sorts) in
     record {
       shape = shaped g (t .shape);
       starts = λ k h. start-row g k (start-is-right g (t .rows) k h);

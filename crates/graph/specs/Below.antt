@@ -6,7 +6,6 @@
 --   joined                        a list for each, joined in order
 --   times                         how often a number stands in a list
 --   every-go, -stop, -end         how a loop follows `every`; every-each is what it then knows
---   both-true                     what a conjunction says
 --   total-within, total-somewhere                    where a number lies in a sum
 --   joined-at                                        where a list stands in the joined list
 --   times-append, -within, -of-two, -somewhere       how often a number stands in a joined list
@@ -25,6 +24,7 @@ use lib.ListN.{length, getD, length-append, List·getD-append}
 use lib.Seq.{getD-append-add}
 use borrow.Author.Tests.{eq-eqb}
 use Rattle.word.specs.Words.{flag}
+use Rattle.step.specs.Kept.{and-true}
 
 -- The test holds of `from`, `from + 1`, .., so many of them.
 unfoldable pub everyFrom : ℕ → ℕ → (ℕ → Bool) → Bool
@@ -48,10 +48,6 @@ times w (x ∷ xs) = flag (eqb w x) + times w xs
 
 -- ---- laws
 
-pub both-true : (a b : Bool) → a && b ≡ true → (a ≡ true) × (b ≡ true)
-both-true true b e = (refl, e)
-both-true false b e = let z : _≡_ {A = ℕ} 0 1 = cc in absurd (omega arith)
-
 module _ (test : ℕ → Bool) (n i : ℕ) where
   less : i < n → n - i ≡ suc (n - (i + 1))
   less h = omega arith
@@ -72,7 +68,7 @@ each-from : (test : ℕ → Bool) (m from : ℕ) → everyFrom m from test ≡ t
 unfolding everyFrom
 each-from test zero from e i h l = absurd (omega arith)
 each-from test (suc m) from e i h l =
-    let p = both-true (test from) (everyFrom m (from + 1) test) e in
+    let p = and-true (test from) (everyFrom m (from + 1) test) e in
     ⊎-elim (λ (q : from ≡ i). rw (← q) (p .0)) (λ (q : from < i). each-from test m (from + 1) (p .1) i (omega arith) (omega arith)) (eq-or-lt-of-le h)
 
 pub every-each : (test : ℕ → Bool) (n : ℕ) → every n test ≡ true → (i : ℕ) → i < n → test i ≡ true

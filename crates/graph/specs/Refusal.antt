@@ -18,7 +18,8 @@ use lib.Dec.{eqb, ltb, leb}
 use lib.ListN.{getD, length}
 use Rattle.word.specs.Words.{pick}
 use Rattle.step.specs.Kinds.{Kind, outputs, codes, ownSorts, inputSort, Input, in0, in1, in2}
-use Rattle.graph.specs.Below.{every, times, every-each, both-true}
+use Rattle.graph.specs.Below.{every, times, every-each}
+use Rattle.step.specs.Kept.{and-true}
 use Rattle.graph.specs.Graph.{absent, nodeCount, wireCount, startCount, resultCount, startKindAt, startWordAt, inputsBefore, resultAt, Node, nodeAt, hasInput, wireOn, firstAt, reads, wireSorts, sortAt}
 
 -- "under 4 words, counts beyond 4,096 / 8,192 / 512 / 512, length not 4 + 2S + R + 7n"
@@ -128,11 +129,11 @@ graphRefusal g =
 pub shaped : (g : List ℕ) → hasShape g ≡ true → Shaped g
 unfolding hasShape
 shaped g e =
-    let p0 = both-true (leb 4 (length g)) _ e in
-    let p1 = both-true (leb (nodeCount g) 4096) _ (p0 .1) in
-    let p2 = both-true (leb (wireCount g) 8192) _ (p1 .1) in
-    let p3 = both-true (leb (startCount g) 512) _ (p2 .1) in
-    let p4 = both-true (leb (resultCount g) 512) _ (p3 .1) in
+    let p0 = and-true (leb 4 (length g)) _ e in
+    let p1 = and-true (leb (nodeCount g) 4096) _ (p0 .1) in
+    let p2 = and-true (leb (wireCount g) 8192) _ (p1 .1) in
+    let p3 = and-true (leb (startCount g) 512) _ (p2 .1) in
+    let p4 = and-true (leb (resultCount g) 512) _ (p3 .1) in
     record {
       long = leb-true 4 (length g) (p0 .0);
       nodes = leb-true (nodeCount g) 4096 (p1 .0);
@@ -144,27 +145,27 @@ shaped g e =
 
 pub start-is-right : (g : List ℕ) → rowsRight g ≡ true → (k : ℕ) → k < startCount g → startRight g k ≡ true
 unfolding rowsRight
-start-is-right g e k h = every-each (startRight g) (startCount g) (both-true (every (startCount g) (startRight g)) _ e .0) k h
+start-is-right g e k h = every-each (startRight g) (startCount g) (and-true (every (startCount g) (startRight g)) _ e .0) k h
 
 pub node-is-right : (g : List ℕ) → rowsRight g ≡ true → (i : ℕ) → i < nodeCount g → nodeRight g i ≡ true
 unfolding rowsRight
 node-is-right g e i h =
-    let p = both-true (every (startCount g) (startRight g)) _ e .1 in
-    every-each (nodeRight g) (nodeCount g) (both-true (every (nodeCount g) (nodeRight g)) _ p .0) i h
+    let p = and-true (every (startCount g) (startRight g)) _ e .1 in
+    every-each (nodeRight g) (nodeCount g) (and-true (every (nodeCount g) (nodeRight g)) _ p .0) i h
 
 pub wires-are-all-outputs : (g : List ℕ) → rowsRight g ≡ true → wireCount g ≡ firstAt g (nodeCount g)
 unfolding rowsRight
 wires-are-all-outputs g e =
-    let p = both-true (every (startCount g) (startRight g)) _ e .1 in
-    eqb-true (wireCount g) (firstAt g (nodeCount g)) (both-true (every (nodeCount g) (nodeRight g)) _ p .1)
+    let p = and-true (every (startCount g) (startRight g)) _ e .1 in
+    eqb-true (wireCount g) (firstAt g (nodeCount g)) (and-true (every (nodeCount g) (nodeRight g)) _ p .1)
 
 pub node-is-below : (g : List ℕ) → wiresBelow g ≡ true → (i : ℕ) → i < nodeCount g → nodeBelow g i ≡ true
 unfolding wiresBelow
 node-is-below g e i h =
-    every-each (nodeBelow g) (nodeCount g) (both-true (every (nodeCount g) (nodeBelow g)) (every (resultCount g) (resultBelow g)) e .0) i h
+    every-each (nodeBelow g) (nodeCount g) (and-true (every (nodeCount g) (nodeBelow g)) (every (resultCount g) (resultBelow g)) e .0) i h
 
 pub result-is-below : (g : List ℕ) → wiresBelow g ≡ true → (k : ℕ) → k < resultCount g → resultAt g k < wireCount g
 unfolding wiresBelow
 result-is-below g e k h =
-    let all = both-true (every (nodeCount g) (nodeBelow g)) (every (resultCount g) (resultBelow g)) e .1 in
+    let all = and-true (every (nodeCount g) (nodeBelow g)) (every (resultCount g) (resultBelow g)) e .1 in
     ltb-true (resultAt g k) (wireCount g) (every-each (resultBelow g) (resultCount g) all k h)
