@@ -3,17 +3,18 @@
 --
 --   stateRefusal                      11 to 15, then 17 for a state that is not legal
 --   loadRefusal, loadState            the number that load answers, and the state after it
---   fireRefusal, fireFired, fireState
---   firedNumber, firedFlag            the paper's number for each case of the answer of fire
+--   fireRefusal, fireAnswer, fireState
+--   firedNumber, firedFlag            the paper's number for each case of the answer of fire; fire-number, fire-flag: of the answer itself
 --   FireAnswer, LoadAnswer            what fire and load promise
 --   Fit, Given                        what the inner functions rely on
 --
 -- "All lent memory is unchanged" by a refusal: each of the states is the lent one where its number is not 0.
 -- Assumes nothing.
 use Prim.Native.Nat.{ℕ}
-use mathlib.Core.Path.{_≡_}
+use mathlib.Core.Path.{_≡_, refl, sym}
 use mathlib.Core.Bool.{Bool, true, false}
 use mathlib.Core.List.{List}
+use borrow.Author.Tests.{eqb-true}
 use lib.Dec.{eqb, ltb}
 use lib.ListN.{length}
 use Rattle.word.specs.Words.{pick, flag}
@@ -45,8 +46,8 @@ loadState g inputs s = pick (eqb (loadRefusal g inputs s) 0) (loaded g inputs) s
 unfoldable pub fireRefusal : List ℕ → List ℕ → ℕ → ℕ
 fireRefusal g s i = first (stateRefusal g s) (pick (ltb i (nodeCount g)) 0 18)
 
-unfoldable pub fireFired : List ℕ → List ℕ → ℕ → Bool
-fireFired g s i = pick (eqb (fireRefusal g s i) 0) (isReady (fire (netOf g) i s)) false
+unfoldable pub fireAnswer : List ℕ → List ℕ → ℕ → Fired
+fireAnswer g s i = pick (eqb (fireRefusal g s i) 0) (pick (isReady (fire (netOf g) i s)) Done NotReady) (Refused (fireRefusal g s i))
 
 unfoldable pub fireState : List ℕ → List ℕ → ℕ → List ℕ
 fireState g s i = pick (eqb (fireRefusal g s i) 0) (orElse (fire (netOf g) i s) s) s
@@ -64,8 +65,7 @@ firedFlag Done = true
 
 -- what fire promises of its answer and of the lent state
 pub record FireAnswer (g s : List ℕ) (i : ℕ) (r : Fired) (exit : List ℕ) : Type 0 where
-  pub number : firedNumber r ≡ fireRefusal g s i
-  pub fired : firedFlag r ≡ fireFired g s i
+  pub answer : r ≡ fireAnswer g s i
   pub state : exit ≡ fireState g s i
 
 -- what load promises of its answer and of the lent state
@@ -82,3 +82,19 @@ pub record Fit (g : List ℕ) (len : ℕ) : Type 0 where
 pub record Given (g : List ℕ) (len : ℕ) : Type 0 where
   pub accepted : Accepted g
   pub inputs : len ≡ inputCount g
+
+-- ---- the paper's numbers of the answer of fire
+
+chosen : (b : Bool) (k : ℕ) (t : Bool) → eqb k 0 ≡ b
+    → (firedNumber (pick b (pick t Done NotReady) (Refused k)) ≡ k) × (firedFlag (pick b (pick t Done NotReady) (Refused k)) ≡ pick b t false)
+chosen true k true e = (sym (eqb-true k 0 e), refl)
+chosen true k false e = (sym (eqb-true k 0 e), refl)
+chosen false k t e = (refl, refl)
+
+pub fire-number : (g s : List ℕ) (i : ℕ) → firedNumber (fireAnswer g s i) ≡ fireRefusal g s i
+unfolding fireAnswer
+fire-number g s i = chosen (eqb (fireRefusal g s i) 0) (fireRefusal g s i) (isReady (fire (netOf g) i s)) refl .0
+
+pub fire-flag : (g s : List ℕ) (i : ℕ) → firedFlag (fireAnswer g s i) ≡ pick (eqb (fireRefusal g s i) 0) (isReady (fire (netOf g) i s)) false
+unfolding fireAnswer
+fire-flag g s i = chosen (eqb (fireRefusal g s i) 0) (fireRefusal g s i) (isReady (fire (netOf g) i s)) refl .1

@@ -20,13 +20,13 @@ use Rattle.graph.specs.Counted.{counted, upToTwo, counted-at}
 use Rattle.graph.specs.Graph.{Node, nodeOf, nodeAt, nodeCount, wireCount, resultCount, resultAt, results, rowPlace, inputAt}
 use Rattle.state.specs.State.{recordAt, tokenOn, isEmpty}
 use Rattle.state.specs.Net.{fire, isReady, netOf}
-use Rattle.state.specs.Run.{At, run, follow, finish, Outcome, outcome, anyReady, complete, resultsFull, othersEmpty, phasesZero, isFull, isResult, isStream, holdsToken, holdsZero, zeroStepAt, firstFrom, zeroStep}
+use Rattle.state.specs.Run.{At, run, follow, finish, SPENT, COMPLETE, ZERO-STEP, STRANDED, Outcome, outcome, anyReady, complete, resultsFull, othersEmpty, phasesZero, isFull, isResult, isStream, holdsToken, holdsZero, zeroStepAt, firstFrom, zeroStep}
 use Rattle.machine.specs.Entries.{first, stateRefusal}
 use Rattle.machine.proofs.Answers.{skips, stops}
 use Rattle.firing.specs.Acted.{Reads, Sees}
 use Rattle.firing.specs.declared.Row.{Row}
 use Rattle.firing.proofs.Fired.{node-read, wire-0, wire-1, wire-2}
-use Rattle.run.specs.Entry.{at, orderBelow, runRefusal, runAt, runState, runOutcome, runFirings, RunAnswer, Below, Ended, idle, otherEmpty, atRest, ranNumber, ranOutcome, ranFirings}
+use Rattle.run.specs.Entry.{at, orderBelow, runRefusal, runAt, runState, runFirings, ranBy, runAnswer, RunAnswer, Below, idle, otherEmpty, atRest}
 use Rattle.run.specs.declared.Ran.{Ran}
 use Rattle.run.specs.declared.Ran.the-variants.{Refused, Spent, Complete, ZeroStep, Stranded}
 
@@ -212,23 +212,26 @@ module _ (g s : List ℕ) where
   results-not ea ta = sym (rw (← ea, ta))
 
   module _ (f : ℕ) where
-    pub ended-spent : {r : Bool} → r ≡ every (nodeCount g) (idle g s) → r ≡ false → Ended g s f (Spent f)
+    by : (a n : ℕ) → outcome g s ≡ record { answer = a; node = n } → ranBy (record { answer = a; node = n }) f ≡ ranBy (outcome g s) f
+    by a n e = ap (λ (o : Outcome). ranBy o f) (sym e)
+
+    pub ended-spent : {r : Bool} → r ≡ every (nodeCount g) (idle g s) → r ≡ false → Spent f ≡ ranBy (outcome g s) f
     unfolding outcome anyReady
-    ended-spent e t = record { number = refl; outcome = sym (rw (← e, t)); firings = refl }
+    ended-spent e t = by SPENT 0 (rw (← e, t))
 
     module _ {r : Bool} (e : r ≡ every (nodeCount g) (idle g s)) (t : r ≡ true) where
-      pub ended-complete : {c : Bool} → c ≡ complete g s → c ≡ true → Ended g s f (Complete f)
+      pub ended-complete : {c : Bool} → c ≡ complete g s → c ≡ true → Complete f ≡ ranBy (outcome g s) f
       unfolding outcome anyReady
-      ended-complete ec tc = record { number = refl; outcome = sym (rw (← e, t, ← ec, tc)); firings = refl }
+      ended-complete ec tc = by COMPLETE 0 (rw (← e, t, ← ec, tc))
 
       module _ {c : Bool} (ec : c ≡ complete g s) (tc : c ≡ false) where
-        pub ended-zero : {z : ℕ} → z ≡ zeroStep g s → z < nodeCount g → Ended g s f (ZeroStep f z)
+        pub ended-zero : {z : ℕ} → z ≡ zeroStep g s → z < nodeCount g → ZeroStep f z ≡ ranBy (outcome g s) f
         unfolding outcome anyReady
-        ended-zero ez h = record { number = refl; outcome = sym (rw (← e, t, ← ec, tc, ← ez, lt-ltb _ _ h)); firings = refl }
+        ended-zero {z = z} ez h = by ZERO-STEP z (rw (← e, t, ← ec, tc, ← ez, lt-ltb _ _ h))
 
-        pub ended-stranded : {z : ℕ} → z ≡ zeroStep g s → nodeCount g ≤ z → Ended g s f (Stranded f)
+        pub ended-stranded : {z : ℕ} → z ≡ zeroStep g s → nodeCount g ≤ z → Stranded f ≡ ranBy (outcome g s) f
         unfolding outcome anyReady
-        ended-stranded ez h = record { number = refl; outcome = sym (rw (← e, t, ← ec, tc, ← ez, le-ltb _ _ h)); firings = refl }
+        ended-stranded ez h = by STRANDED 0 (rw (← e, t, ← ec, tc, ← ez, le-ltb _ _ h))
 
 -- ---- the entry
 
@@ -238,14 +241,8 @@ module _ (g s order : List ℕ) (a : ℕ) where
   below-known e k h = ltb-true _ _ (every-each (λ k. ltb (getD order k 0) (nodeCount g)) (length order) e k h)
 
   refused : (k : ℕ) → k ≡ runRefusal g s order → (k ≡ 0 → ⊥) → RunAnswer g s order a (Refused k) s
-  unfolding runState runOutcome runFirings
-  refused k e n =
-      record {
-        number = e;
-        outcome = rw (← e, ne-eqb k 0 n);
-        firings = rw (← e, ne-eqb k 0 n);
-        state = rw (← e, ne-eqb k 0 n);
-      }
+  unfolding runState runAnswer
+  refused k e n = record { answer = rw (← e, ne-eqb k 0 n); state = rw (← e, ne-eqb k 0 n) }
 
   pub run-state : {k : ℕ} → k ≡ stateRefusal g s → (k ≡ 0 → ⊥) → RunAnswer g s order a (Refused k) s
   unfolding runRefusal
@@ -256,15 +253,13 @@ module _ (g s order : List ℕ) (a : ℕ) where
   run-order e z eb tb = refused 18 (sym (skips _ (sym e ∙ z) ∙ rw (← eb, tb))) (λ q. omega arith)
 
   pub run-ends : {k l1 l2 : ℕ} {b : Bool} {s1 s2 : List ℕ} {r : Ran} → k ≡ stateRefusal g s → k ≡ 0 → b ≡ orderBelow g order → b ≡ true
-      → at s1 l1 ≡ follow (netOf g) order (at s a) → at s2 l2 ≡ finish (netOf g) (nodeCount g) (at s1 l1) → Ended g s2 (a - l2) r
+      → at s1 l1 ≡ follow (netOf g) order (at s a) → at s2 l2 ≡ finish (netOf g) (nodeCount g) (at s1 l1) → r ≡ ranBy (outcome g s2) (a - l2)
       → RunAnswer g s order a r s2
-  unfolding runRefusal runState runOutcome runFirings runAt run
+  unfolding runRefusal runState runAnswer runFirings runAt run
   run-ends {l2 = l2} {s2 = s2} {r = r} e z eb tb f1 f2 E =
       let q : first (stateRefusal g s) (pick (orderBelow g order) 0 18) ≡ 0 = skips _ (sym e ∙ z) ∙ rw (← eb, tb) in
       let p : at s2 l2 ≡ finish (netOf g) (nodeCount g) (follow (netOf g) order (at s a)) = f2 ∙ ap (finish (netOf g) (nodeCount g)) f1 in
       record {
-        number = E .number ∙ sym q;
-        outcome = E .outcome ∙ ap (λ (x : At). outcome g (x .state)) p ∙ sym (rw q);
-        firings = E .firings ∙ ap (λ (x : At). a - x .left) p ∙ sym (rw q);
+        answer = E ∙ ap (λ (x : At). ranBy (outcome g (x .state)) (a - x .left)) p ∙ sym (rw q);
         state = ap (λ (x : At). x .state) p ∙ sym (rw q);
       }

@@ -2,8 +2,8 @@
 --
 --   orderBelow                        no number of the order list is past the last node
 --   runRefusal, runAt, runState       the refusal's number; where the run ends; the state after the call
---   runOutcome, runFirings            answer and node, and the firings made
---   ranNumber, ranAnswer, ranFirings, ranNode      the paper's numbers for each case of the answer
+--   runFirings, runAnswer             the firings made, and the answer
+--   ranNumber, ranOutcome, ranFirings the paper's numbers for each case of the answer
 --   RunAnswer                         what run promises
 --
 -- Assumes nothing.
@@ -39,14 +39,21 @@ runAt g s order allowance = run (netOf g) (nodeCount g) order (record { state = 
 unfoldable pub runState : List ℕ → List ℕ → List ℕ → ℕ → List ℕ
 runState g s order allowance = pick (eqb (runRefusal g s order) 0) (runAt g s order allowance .state) s
 
--- "firings and node, where an entry has them, are 0" in a refusal; so is the answer
-unfoldable pub runOutcome : List ℕ → List ℕ → List ℕ → ℕ → Outcome
-runOutcome g s order allowance = pick (eqb (runRefusal g s order) 0) (outcome g (runAt g s order allowance .state)) (record { answer = 0; node = 0 })
-
+-- the firings made
 unfoldable pub runFirings : List ℕ → List ℕ → List ℕ → ℕ → ℕ
-runFirings g s order allowance = pick (eqb (runRefusal g s order) 0) (allowance - runAt g s order allowance .left) 0
+runFirings g s order allowance = allowance - runAt g s order allowance .left
 
--- ---- the answer, as the paper numbers it
+-- an outcome and the firings made, as a case of the answer
+abbrev pub ranBy : Outcome → ℕ → Ran
+ranBy o f =
+    pick (eqb (o .answer) SPENT) (Spent f)
+    (pick (eqb (o .answer) COMPLETE) (Complete f) (pick (eqb (o .answer) ZERO-STEP) (ZeroStep f (o .node)) (Stranded f)))
+
+unfoldable pub runAnswer : List ℕ → List ℕ → List ℕ → ℕ → Ran
+runAnswer g s order allowance =
+    pick (eqb (runRefusal g s order) 0) (ranBy (outcome g (runAt g s order allowance .state)) (runFirings g s order allowance)) (Refused (runRefusal g s order))
+
+-- ---- the answer, as the paper numbers it: "firings and node, where an entry has them, are 0" in a refusal
 
 abbrev pub ranNumber : Ran → ℕ
 ranNumber (Refused n) = n
@@ -70,9 +77,7 @@ ranFirings (ZeroStep f i) = f
 ranFirings (Stranded f) = f
 
 pub record RunAnswer (g s order : List ℕ) (allowance : ℕ) (r : Ran) (exit : List ℕ) : Type 0 where
-  pub number : ranNumber r ≡ runRefusal g s order
-  pub outcome : ranOutcome r ≡ runOutcome g s order allowance
-  pub firings : ranFirings r ≡ runFirings g s order allowance
+  pub answer : r ≡ runAnswer g s order allowance
   pub state : exit ≡ runState g s order allowance
 
 -- what the inner functions rely on: the graph is accepted, and the state has its length
@@ -85,12 +90,6 @@ at s l = record { state = s; left = l }
 
 abbrev pub Below : List ℕ → List ℕ → Type 0
 Below g order = (k : ℕ) → k < length order → getD order k 0 < nodeCount g
-
--- what a run answers once its firings are made
-pub record Ended (g s : List ℕ) (made : ℕ) (r : Ran) : Type 0 where
-  pub number : ranNumber r ≡ 0
-  pub outcome : ranOutcome r ≡ outcome g s
-  pub firings : ranFirings r ≡ made
 
 -- node i is not ready
 abbrev pub idle : List ℕ → List ℕ → ℕ → Bool

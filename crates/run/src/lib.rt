@@ -9,8 +9,8 @@ ghost use Rattle.graph.specs.Refusal.{graphRefusal};
 ghost use Rattle.graph.specs.Below.{every};
 ghost use Rattle.graph.specs.Graph.{nodeCount};
 ghost use Rattle.state.specs.Net.{netOf};
-ghost use Rattle.state.specs.Run.{turn, follow, sweep, finish, isFull, complete, resultsFull, othersEmpty, phasesZero, holdsToken, holdsZero, zeroStepAt, zeroStep};
-ghost use Rattle.run.specs.Entry.{at, orderBelow, RunAnswer, Runs, Below, idle, Ended};
+ghost use Rattle.state.specs.Run.{turn, follow, sweep, finish, isFull, complete, resultsFull, othersEmpty, phasesZero, holdsToken, holdsZero, zeroStepAt, zeroStep, outcome};
+ghost use Rattle.run.specs.Entry.{at, orderBelow, RunAnswer, Runs, Below, idle, ranBy};
 
 const ORDER: u32 = 18;
 
@@ -220,7 +220,7 @@ fn zero_step(graph: &[u32], state: &[u32]) -> u32
 
 fn ended(graph: &[u32], state: &[u32], firings: u64) -> Ran
     requires { ⌜ Runs (now graph) (length (now state)) ⌝ }
-    ensures answer { λ r. ⌜ Ended (now (graph .entry)) (now (state .entry)) firings r ⌝ }
+    ensures answer { λ r. ⌜ r ≡ ranBy (outcome (now (graph .entry)) (now (state .entry))) firings ⌝ }
 {
     if none_ready(graph, state) {
         if is_complete(graph, state) {
