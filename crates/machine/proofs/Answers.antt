@@ -47,7 +47,7 @@ module _ (g s : List ℕ) where
 
 -- ---- 11 to 15, then 17
 
-first-zero : (a b : ℕ) → first a b ≡ 0 → (a ≡ 0) × (b ≡ 0)
+pub first-zero : (a b : ℕ) → first a b ≡ 0 → (a ≡ 0) × (b ≡ 0)
 first-zero zero b e = (refl, e)
 first-zero (suc a) b e = absurd (never e)
   where
