@@ -19,7 +19,7 @@ use Rattle.graph.specs.Wiring.{input-below, output-below}
 use Rattle.state.specs.Net.{fire, isReady, orElse, netOf}
 use Rattle.state.specs.Legal.{stateLength, rightLength, legalWire, legalNode, legal}
 use Rattle.firing.specs.Acted.{Placed}
-use Rattle.machine.specs.Entries.{first, stateRefusal, fireRefusal, fireAnswer, fireState, FireAnswer}
+use Rattle.machine.specs.Entries.{first, stateRefusal, fireRefusal, fireAnswer, fireState, FireAnswer, fire-answers}
 use Rattle.machine.specs.declared.Fired.{Fired}
 use Rattle.machine.specs.declared.Fired.the-variants.{Refused, NotReady, Done}
 
@@ -92,7 +92,7 @@ placed g i len e l h =
 module _ (g s : List ℕ) (i : ℕ) where
   refused : (k : ℕ) → k ≡ fireRefusal g s i → (k ≡ 0 → ⊥) → FireAnswer g s i (Refused k) s
   unfolding fireAnswer fireState
-  refused k e n = record { answer = rw (← e, ne-eqb k 0 n); state = rw (← e, ne-eqb k 0 n) }
+  refused k e n = fire-answers g s i (Refused k) s (rw (← e, ne-eqb k 0 n)) (rw (← e, ne-eqb k 0 n))
 
   pub fire-state : {k : ℕ} → k ≡ stateRefusal g s → (k ≡ 0 → ⊥) → FireAnswer g s i (Refused k) s
   unfolding fireRefusal
@@ -109,9 +109,9 @@ module _ (g s : List ℕ) (i : ℕ) where
   pub fire-done : {k : ℕ} {t : Bool} {s1 : List ℕ} → k ≡ stateRefusal g s → k ≡ 0 → i < nodeCount g
       → (t ≡ isReady (fire (netOf g) i s)) × (s1 ≡ orElse (fire (netOf g) i s) s) → t ≡ true → FireAnswer g s i Done s1
   unfolding fireAnswer fireState
-  fire-done e z h p t = let q = goes e z h in record { answer = rw (q, ← p .0, t); state = rw q (p .1) }
+  fire-done {s1 = s1} e z h p t = let q = goes e z h in fire-answers g s i Done s1 (rw (q, ← p .0, t)) (rw q (p .1))
 
   pub fire-waits : {k : ℕ} {t : Bool} {s1 : List ℕ} → k ≡ stateRefusal g s → k ≡ 0 → i < nodeCount g
       → (t ≡ isReady (fire (netOf g) i s)) × (s1 ≡ orElse (fire (netOf g) i s) s) → t ≡ false → FireAnswer g s i NotReady s1
   unfolding fireAnswer fireState
-  fire-waits e z h p t = let q = goes e z h in record { answer = rw (q, ← p .0, t); state = rw q (p .1) }
+  fire-waits {s1 = s1} e z h p t = let q = goes e z h in fire-answers g s i NotReady s1 (rw (q, ← p .0, t)) (rw q (p .1))

@@ -4,14 +4,14 @@
 --   stateRefusal                      11 to 15, then 17 for a state that is not legal
 --   loadRefusal, loadState            the number that load answers, and the state after it
 --   fireRefusal, fireAnswer, fireState
---   firedNumber, firedFlag            the paper's number for each case of the answer of fire; fire-number, fire-flag: of the answer itself
+--   firedNumber, firedRow, firedFlag  the paper's number for each case of the answer of fire; fire-number, fire-flag: of the answer itself
 --   FireAnswer, LoadAnswer            what fire and load promise
 --   Fit, Given                        what the inner functions rely on
 --
 -- "All lent memory is unchanged" by a refusal: each of the states is the lent one where its number is not 0.
 -- Assumes nothing.
 use Prim.Native.Nat.{ℕ}
-use mathlib.Core.Path.{_≡_, refl, sym}
+use mathlib.Core.Path.{_≡_, refl, sym, ap, _∙_}
 use mathlib.Core.Bool.{Bool, true, false}
 use mathlib.Core.List.{List}
 use borrow.Author.Tests.{eqb-true}
@@ -58,30 +58,14 @@ firedNumber (Refused n) = n
 firedNumber NotReady = 0
 firedNumber Done = 0
 
+-- "a row": 0 for 11 to 18
+abbrev pub firedRow : Fired → ℕ
+firedRow r = 0
+
 abbrev pub firedFlag : Fired → Bool
 firedFlag (Refused n) = false
 firedFlag NotReady = false
 firedFlag Done = true
-
--- what fire promises of its answer and of the lent state
-pub record FireAnswer (g s : List ℕ) (i : ℕ) (r : Fired) (exit : List ℕ) : Type 0 where
-  pub answer : r ≡ fireAnswer g s i
-  pub state : exit ≡ fireState g s i
-
--- what load promises of its answer and of the lent state
-pub record LoadAnswer (g inputs s : List ℕ) (r : ℕ) (exit : List ℕ) : Type 0 where
-  pub number : r ≡ loadRefusal g inputs s
-  pub state : exit ≡ loadState g inputs s
-
--- what the inner checks of a state may rely on: the graph is accepted, and the state has its length
-pub record Fit (g : List ℕ) (len : ℕ) : Type 0 where
-  pub accepted : Accepted g
-  pub size : len ≡ stateLength g
-
--- what loading may rely on: the graph is accepted, and there is one word per input
-pub record Given (g : List ℕ) (len : ℕ) : Type 0 where
-  pub accepted : Accepted g
-  pub inputs : len ≡ inputCount g
 
 -- ---- the paper's numbers of the answer of fire
 
@@ -98,3 +82,30 @@ fire-number g s i = chosen (eqb (fireRefusal g s i) 0) (fireRefusal g s i) (isRe
 pub fire-flag : (g s : List ℕ) (i : ℕ) → firedFlag (fireAnswer g s i) ≡ pick (eqb (fireRefusal g s i) 0) (isReady (fire (netOf g) i s)) false
 unfolding fireAnswer
 fire-flag g s i = chosen (eqb (fireRefusal g s i) 0) (fireRefusal g s i) (isReady (fire (netOf g) i s)) refl .1
+
+-- what fire promises of its answer and of the lent state
+pub record FireAnswer (g s : List ℕ) (i : ℕ) (r : Fired) (exit : List ℕ) : Type 0 where
+  pub answer : r ≡ fireAnswer g s i
+  pub number : firedNumber r ≡ fireRefusal g s i
+  pub row : firedRow r ≡ 0
+  pub fired : firedFlag r ≡ pick (eqb (fireRefusal g s i) 0) (isReady (fire (netOf g) i s)) false
+  pub state : exit ≡ fireState g s i
+
+pub fire-answers : (g s : List ℕ) (i : ℕ) (r : Fired) (exit : List ℕ) → r ≡ fireAnswer g s i → exit ≡ fireState g s i → FireAnswer g s i r exit
+fire-answers g s i r exit e h =
+    record { answer = e; number = ap firedNumber e ∙ fire-number g s i; row = refl; fired = ap firedFlag e ∙ fire-flag g s i; state = h }
+
+-- what load promises of its answer and of the lent state
+pub record LoadAnswer (g inputs s : List ℕ) (r : ℕ) (exit : List ℕ) : Type 0 where
+  pub number : r ≡ loadRefusal g inputs s
+  pub state : exit ≡ loadState g inputs s
+
+-- what the inner checks of a state may rely on: the graph is accepted, and the state has its length
+pub record Fit (g : List ℕ) (len : ℕ) : Type 0 where
+  pub accepted : Accepted g
+  pub size : len ≡ stateLength g
+
+-- what loading may rely on: the graph is accepted, and there is one word per input
+pub record Given (g : List ℕ) (len : ℕ) : Type 0 where
+  pub accepted : Accepted g
+  pub inputs : len ≡ inputCount g

@@ -26,7 +26,8 @@ use Rattle.machine.proofs.Answers.{skips, stops}
 use Rattle.firing.specs.Acted.{Reads, Sees}
 use Rattle.firing.specs.declared.Row.{Row}
 use Rattle.firing.proofs.Fired.{node-read, wire-0, wire-1, wire-2}
-use Rattle.run.specs.Entry.{at, orderBelow, runRefusal, runAt, runState, runFirings, ranBy, runAnswer, RunAnswer, Below, idle, otherEmpty, atRest}
+use Rattle.run.specs.Entry.{at, orderBelow, runRefusal, runAt, runState, runFirings, ranBy, runAnswer, Below, idle, otherEmpty, atRest}
+use Rattle.run.specs.Numbers.{RunAnswer, run-answers}
 use Rattle.run.specs.declared.Ran.{Ran}
 use Rattle.run.specs.declared.Ran.the-variants.{Refused, Spent, Complete, ZeroStep, Stranded}
 
@@ -242,7 +243,7 @@ module _ (g s order : List ℕ) (a : ℕ) where
 
   refused : (k : ℕ) → k ≡ runRefusal g s order → (k ≡ 0 → ⊥) → RunAnswer g s order a (Refused k) s
   unfolding runState runAnswer
-  refused k e n = record { answer = rw (← e, ne-eqb k 0 n); state = rw (← e, ne-eqb k 0 n) }
+  refused k e n = run-answers g s order a (Refused k) s (rw (← e, ne-eqb k 0 n)) (rw (← e, ne-eqb k 0 n))
 
   pub run-state : {k : ℕ} → k ≡ stateRefusal g s → (k ≡ 0 → ⊥) → RunAnswer g s order a (Refused k) s
   unfolding runRefusal
@@ -259,7 +260,4 @@ module _ (g s order : List ℕ) (a : ℕ) where
   run-ends {l2 = l2} {s2 = s2} {r = r} e z eb tb f1 f2 E =
       let q : first (stateRefusal g s) (pick (orderBelow g order) 0 18) ≡ 0 = skips _ (sym e ∙ z) ∙ rw (← eb, tb) in
       let p : at s2 l2 ≡ finish (netOf g) (nodeCount g) (follow (netOf g) order (at s a)) = f2 ∙ ap (finish (netOf g) (nodeCount g)) f1 in
-      record {
-        answer = E ∙ ap (λ (x : At). ranBy (outcome g (x .state)) (a - x .left)) p ∙ sym (rw q);
-        state = ap (λ (x : At). x .state) p ∙ sym (rw q);
-      }
+      run-answers g s order a r s2 (E ∙ ap (λ (x : At). ranBy (outcome g (x .state)) (a - x .left)) p ∙ sym (rw q)) (ap (λ (x : At). x .state) p ∙ sym (rw q))

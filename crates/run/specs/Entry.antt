@@ -3,8 +3,7 @@
 --   orderBelow                        no number of the order list is past the last node
 --   runRefusal, runAt, runState       the refusal's number; where the run ends; the state after the call
 --   runFirings, runAnswer             the firings made, and the answer
---   ranNumber, ranOutcome, ranFirings the paper's numbers for each case of the answer
---   RunAnswer                         what run promises
+--   ranNumber, ranRow, ranOutcome, ranFirings      the paper's numbers for each case of the answer
 --
 -- Assumes nothing.
 use Prim.Native.Nat.{ℕ, _-_, _≤_, _<_}
@@ -25,7 +24,7 @@ use Rattle.machine.specs.Entries.{first, stateRefusal}
 use Rattle.run.specs.declared.Ran.{Ran}
 use Rattle.run.specs.declared.Ran.the-variants.{Refused, Spent, Complete, ZeroStep, Stranded}
 
--- 18 ORDER: "a node number not below n"; "then 18 .. before anything fires"
+-- 18 ORDER: "a node number not below n", of the whole list before anything fires
 unfoldable pub orderBelow : List ℕ → List ℕ → Bool
 orderBelow g order = every (length order) (λ k. ltb (getD order k 0) (nodeCount g))
 
@@ -69,16 +68,16 @@ ranOutcome (Complete f) = record { answer = COMPLETE; node = 0 }
 ranOutcome (ZeroStep f i) = record { answer = ZERO-STEP; node = i }
 ranOutcome (Stranded f) = record { answer = STRANDED; node = 0 }
 
+-- "a row": 0 for 11 to 18
+abbrev pub ranRow : Ran → ℕ
+ranRow r = 0
+
 abbrev pub ranFirings : Ran → ℕ
 ranFirings (Refused n) = 0
 ranFirings (Spent f) = f
 ranFirings (Complete f) = f
 ranFirings (ZeroStep f i) = f
 ranFirings (Stranded f) = f
-
-pub record RunAnswer (g s order : List ℕ) (allowance : ℕ) (r : Ran) (exit : List ℕ) : Type 0 where
-  pub answer : r ≡ runAnswer g s order allowance
-  pub state : exit ≡ runState g s order allowance
 
 -- what the inner functions rely on: the graph is accepted, and the state has its length
 pub record Runs (g : List ℕ) (len : ℕ) : Type 0 where

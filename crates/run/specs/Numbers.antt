@@ -1,6 +1,7 @@
--- The paper's numbers of the answer of run, and of fire: document 01, 'Firing' and 'Refusal numbers'.
+-- The paper's numbers of the answer of run, and what run promises: document 01, 'Firing' and 'Refusal numbers'.
 --
 --   run-number, run-outcome, run-firings      of the answer: the refusal's number or 0; answer and node, 0 in a refusal; the firings, 0 in a refusal
+--   RunAnswer                                 what run promises of its answer and of the lent state
 --
 -- Assumes nothing.
 use Prim.Native.Nat.{ℕ, zero, suc}
@@ -13,11 +14,11 @@ use Rattle.word.specs.Words.{pick}
 use Rattle.graph.specs.Graph.{nodeCount}
 use Rattle.state.specs.Net.{netOf}
 use Rattle.state.specs.Run.{Outcome, outcome, anyReady, complete, zeroStep, SPENT, COMPLETE, ZERO-STEP, STRANDED}
-use Rattle.run.specs.Entry.{runRefusal, runAt, runFirings, ranBy, runAnswer, ranNumber, ranOutcome, ranFirings}
+use Rattle.run.specs.Entry.{runRefusal, runAt, runState, runFirings, ranBy, runAnswer, ranNumber, ranRow, ranOutcome, ranFirings}
 use Rattle.run.specs.declared.Ran.{Ran}
 use Rattle.run.specs.declared.Ran.the-variants.{Refused}
 
-abbrev over : ℕ → ℕ → Outcome
+abbrev pub over : ℕ → ℕ → Outcome
 over a n = record { answer = a; node = n }
 
 abbrev cases : Bool → Bool → Bool → ℕ → Outcome
@@ -57,3 +58,22 @@ module _ (g s order : List ℕ) (a : ℕ) where
       let x = ran-shown g (runAt g s order a .state) (runFirings g s order a) in
       chosen (eqb (runRefusal g s order) 0) (runRefusal g s order) (ranBy (outcome g (runAt g s order a .state)) (runFirings g s order a)) refl (x .0) .2
       ∙ ap (λ (n : ℕ). pick (eqb (runRefusal g s order) 0) n 0) (x .2)
+
+pub record RunAnswer (g s order : List ℕ) (allowance : ℕ) (r : Ran) (exit : List ℕ) : Type 0 where
+  pub answer : r ≡ runAnswer g s order allowance
+  pub number : ranNumber r ≡ runRefusal g s order
+  pub row : ranRow r ≡ 0
+  pub outcome : ranOutcome r ≡ pick (eqb (runRefusal g s order) 0) (outcome g (runAt g s order allowance .state)) (over 0 0)
+  pub firings : ranFirings r ≡ pick (eqb (runRefusal g s order) 0) (runFirings g s order allowance) 0
+  pub state : exit ≡ runState g s order allowance
+
+pub run-answers : (g s order : List ℕ) (a : ℕ) (r : Ran) (exit : List ℕ) → r ≡ runAnswer g s order a → exit ≡ runState g s order a → RunAnswer g s order a r exit
+run-answers g s order a r exit e h =
+    record {
+      answer = e;
+      number = ap ranNumber e ∙ run-number g s order a;
+      row = refl;
+      outcome = ap ranOutcome e ∙ run-outcome g s order a;
+      firings = ap ranFirings e ∙ run-firings g s order a;
+      state = h;
+    }

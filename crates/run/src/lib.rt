@@ -10,7 +10,8 @@ ghost use Rattle.graph.specs.Below.{every};
 ghost use Rattle.graph.specs.Graph.{nodeCount};
 ghost use Rattle.state.specs.Net.{netOf};
 ghost use Rattle.state.specs.Run.{turn, follow, sweep, finish, isFull, complete, resultsFull, othersEmpty, phasesZero, holdsToken, holdsZero, zeroStepAt, zeroStep, outcome};
-ghost use Rattle.run.specs.Entry.{at, orderBelow, RunAnswer, Runs, Below, idle, ranBy};
+ghost use Rattle.run.specs.Numbers.{RunAnswer};
+ghost use Rattle.run.specs.Entry.{at, orderBelow, Runs, Below, idle, ranBy};
 
 const ORDER: u32 = 18;
 

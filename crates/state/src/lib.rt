@@ -1,1 +1,1 @@
-// Definitions and theorems alone; the code stands in the crate machine.
+// Definitions alone. The code stands in the crates firing, machine and run.

@@ -1,6 +1,6 @@
 -- What single firings do, each once for words and for flags: a step does not look at the row's sort.
 --
---   fork-copies, drain-swallows, split-routes, invariant-opens, invariant-repeats, invariant-closes
+--   fork-copies, drain-swallows, split-routes-true, split-routes-false, invariant-opens, invariant-repeats, invariant-closes
 --
 -- Assumes nothing.
 use mathlib.Core.Path.{_≡_, refl, ap}

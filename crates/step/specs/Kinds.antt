@@ -3,7 +3,7 @@
 --   Kind, kindOf                  a kind and its number
 --   inputs, outputs               how many places of each a kind has
 --   inputSort, outputSort         the sort of each place
---   codes, ownSort                which codes and sorts a row of this kind may have
+--   codes, ownSorts               which codes and sorts a row of this kind may have
 --   limit                         a word of a sort is below its limit
 --
 -- Assumes nothing.

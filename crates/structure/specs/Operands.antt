@@ -1,5 +1,5 @@
 -- What an operand may name: an earlier value, at home in the body where it is read or around it, and of a NEXT one whose END has passed.
--- Main names: `Operand`, `operand-of`, `ArgOperand`, `arg-operand-of`, and the homes: `home-start`, `home-op`, `home-for`, `home-arg`, `home-next`.
+-- Main names: `Operand`, `operand-of`, `ArgOperand`, `arg-operand-of`, and the homes: `home-start`, `home-for`, `home-here`, `home-next`.
 -- Assumes nothing.
 use Prim.Native.Nat.{ℕ, zero, suc, _+_, _<_, _≤_}
 use mathlib.Core.Bool.{Bool, true, false, cond, _&&_}

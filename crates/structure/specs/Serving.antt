@@ -1,5 +1,5 @@
 -- ARGs and NEXTs: the ARGs of a loop stand directly behind its FOR, its NEXTs directly before its END, and they pair off in order.
--- Main names: `args-counted`, `header-stack`, `ArgOf`, `arg-of`, `next-of`.
+-- Main names: `args-counted`, `header-stack`, `arg-of`, `next-of`.
 -- Assumes nothing.
 use Prim.Native.Nat.{ℕ, zero, suc, _+_, _-_, _<_, _≤_}
 use mathlib.Core.Bool.{Bool, true, false, cond, false≢true}
