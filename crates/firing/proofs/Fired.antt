@@ -1,5 +1,5 @@
--- A step on what the row and the state show is the net's firing. Main results: `placed-within`, `effect-is`, `node-waits`, `act-room`,
--- `node-fires`.
+-- A step on what the row and the state show is the net's firing. Main results: `placed-within`, `effect-is`, `left-is`, `node-waits`,
+-- `act-room`, `node-fires`.
 -- Idea: an input that is taken was full and an output that is given had room (`Local`), so both are places that the kind has; hence the
 -- stores on the row's wires are the net's stores, and those wires are in the state.
 -- Assumes nothing.
@@ -24,6 +24,7 @@ use Rattle.step.specs.declared.Act.{Act}
 use Rattle.step.specs.declared.Seen.{Seen}
 use Rattle.step.specs.declared.Firing.{Firing}
 use Rattle.step.specs.declared.Firing.the-variants.{NotReady, Fires}
+use Rattle.lent.specs.Left.{leftBy}
 use Rattle.graph.specs.Graph.{Node, nodeOf, nodeAt, rowAt, nodeCount, wireCount, rowPlace, column, inputOf, outputOf, inputAt, outputAt}
 use Rattle.state.specs.State.{Stores, stored, emptied, filled, kept, tokenOn, hasRoom, recordAt}
 use Rattle.state.specs.Net.{Net, view, effectAt, stores, after, fire, isReady, orElse, stepAt, netOf}
@@ -154,8 +155,14 @@ module _ (g : List ℕ) (i : ℕ) (h : i < nodeCount g) (r : Row) (R : Reads g i
           own = (O ∙ ap (λ (n : ℕ). recordAt n s i) eW) d;
         }
 
+    stepped-is : stepOf (r .kind) (r .code) (viewOf v own) ≡ effectAt (netOf g) i s
+    stepped-is = ap (stepOf (r .kind) (r .code)) view-is ∙ sym (step-read (view (netOf g) i s))
+
     pub effect-is : shown f ≡ effectAt (netOf g) i s
-    effect-is = F ∙ ap (stepOf (r .kind) (r .code)) view-is ∙ sym (step-read (view (netOf g) i s))
+    effect-is = F ∙ stepped-is
+
+    pub left-is : (q : Record) → q ≡ leftBy (stepOf (r .kind) (r .code) (viewOf v own)) own → q ≡ leftBy (effectAt (netOf g) i s) (recordAt (wireCount g) s i)
+    left-is q e = e ∙ ap₂ leftBy stepped-is (O ∙ ap (λ (n : ℕ). recordAt n s i) eW)
 
   module _ (s : List ℕ) (f : Firing) (F : shown f ≡ effectAt (netOf g) i s) where
     pub node-waits : f ≡ NotReady → (false ≡ isReady (fire (netOf g) i s)) × (s ≡ orElse (fire (netOf g) i s) s)
@@ -210,23 +217,27 @@ module _ (g : List ℕ) (i : ℕ) (h : i < nodeCount g) (r : Row) (R : Reads g i
             small = R .small;
           }
 
-      same-stores : (W : ℕ) → W ≡ wireCount g → actStores a (r .wire0) (r .wire1) (r .wire2) (r .first) W i ≡ stores (netOf g) i (effectOf a)
-      same-stores W eW =
+      -- the record left is the effect's
+      left-next : (q own : Record) → q ≡ leftBy (effectAt (netOf g) i s) own → q ≡ a .next
+      left-next q own e = e ∙ ap (λ (o : Option Effect). leftBy o own) fires
+
+      same-stores : (W : ℕ) → W ≡ wireCount g → (q : Record) → q ≡ a .next → actStores a q (r .wire0) (r .wire1) (r .wire2) (r .first) W i ≡ stores (netOf g) i (effectOf a)
+      same-stores W eW q eq =
           let e0 = sym (emptied-there (ltb 0 (r .inputs)) (r .wire0) (a .takes .in0) has-0) ∙ ap (λ (o : Option ℕ). emptied o (a .takes .in0)) wire-0 in
           let e1 = sym (emptied-there (ltb 1 (r .inputs)) (r .wire1) (a .takes .in1) has-1) ∙ ap (λ (o : Option ℕ). emptied o (a .takes .in1)) wire-1 in
           let e2 = sym (emptied-there (ltb 2 (r .inputs)) (r .wire2) (a .takes .in2) has-2) ∙ ap (λ (o : Option ℕ). emptied o (a .takes .in2)) wire-2 in
           let e3 = sym (filled-there (ltb 0 (r .outputs)) (r .first) (tokenOf (a .gives0)) has-3) ∙ ap (λ (o : Option ℕ). filled o (tokenOf (a .gives0))) wire-3 in
           let e4 = sym (filled-there (ltb 1 (r .outputs)) (r .first + 1) (tokenOf (a .gives1)) has-4) ∙ ap (λ (o : Option ℕ). filled o (tokenOf (a .gives1))) wire-4 in
-          six (ap (λ (n : ℕ). kept n i (a .next)) eW) e0 e1 e2 e3 e4
+          six (ap₂ (λ (n : ℕ) (p : Record). kept n i p) eW eq) e0 e1 e2 e3 e4
         where
           six : {x0 y0 x1 y1 x2 y2 x3 y3 x4 y4 x5 y5 : Stores} → x5 ≡ y5 → x0 ≡ y0 → x1 ≡ y1 → x2 ≡ y2 → x3 ≡ y3 → x4 ≡ y4
               → x0 ++ (x1 ++ (x2 ++ (x3 ++ (x4 ++ x5)))) ≡ y0 ++ (y1 ++ (y2 ++ (y3 ++ (y4 ++ y5))))
           six z a b c d e = rw (a, b, c, d, e, z)
 
-      pub node-fires : (W : ℕ) → W ≡ wireCount g → (t : List ℕ) → t ≡ stored (actStores a (r .wire0) (r .wire1) (r .wire2) (r .first) W i) s
+      pub node-fires : (W : ℕ) → W ≡ wireCount g → (q own : Record) → q ≡ leftBy (effectAt (netOf g) i s) own → (t : List ℕ) → t ≡ stored (actStores a q (r .wire0) (r .wire1) (r .wire2) (r .first) W i) s
           → (true ≡ isReady (fire (netOf g) i s)) × (t ≡ orElse (fire (netOf g) i s) s)
       unfolding fire
-      node-fires W eW t q = (
+      node-fires W eW q own eq t e = (
         sym (ap (λ (o : Option Effect). isReady (after (netOf g) i s o)) fires),
-        q ∙ ap (λ (x : Stores). stored x s) (same-stores W eW) ∙ sym (ap (λ (o : Option Effect). orElse (after (netOf g) i s o) s) fires),
+        e ∙ ap (λ (x : Stores). stored x s) (same-stores W eW q (left-next q own eq)) ∙ sym (ap (λ (o : Option Effect). orElse (after (netOf g) i s o) s) fires),
       )

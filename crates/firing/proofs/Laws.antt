@@ -6,6 +6,7 @@ use mathlib.Core.Path.{_≡_, refl, sym, ap, _∙_}
 use mathlib.Core.Option.{Option, none, some}
 use Rattle.step.specs.Shown.{tokenOf}
 use Rattle.step.specs.declared.Act.{Act}
+use Rattle.step.specs.declared.Record.{Record}
 use Rattle.state.specs.State.{token, Stores, stored, emptied, filled, kept, stored-append}
 use Rattle.word.specs.Words.{wordLimit}
 use Rattle.step.specs.Kinds.{kindOf, inputs as kindInputs, outputs as kindOutputs}
@@ -27,14 +28,14 @@ joined x1 x2 x3 x4 x5 x6 s s1 s2 s3 s4 s5 s6 e1 e2 e3 e4 e5 e6 =
     ∙ stored-append x4 (x5 ++ x6) (stored x3 (stored x2 (stored x1 s)))
     ∙ stored-append x5 x6 (stored x4 (stored x3 (stored x2 (stored x1 s)))))
 
-pub acted-is : (a : Act) (w0 w1 w2 first W i : ℕ) (s s1 s2 s3 s4 s5 s6 : List ℕ)
+pub acted-is : (a : Act) (left : Record) (w0 w1 w2 first W i : ℕ) (s s1 s2 s3 s4 s5 s6 : List ℕ)
     → s1 ≡ stored (emptied (some w0) (a .takes .in0)) s → s2 ≡ stored (emptied (some w1) (a .takes .in1)) s1
     → s3 ≡ stored (emptied (some w2) (a .takes .in2)) s2 → s4 ≡ stored (filled (some first) (tokenOf (a .gives0))) s3
-    → s5 ≡ stored (filled (some (first + 1)) (tokenOf (a .gives1))) s4 → s6 ≡ stored (kept W i (a .next)) s5
-    → s6 ≡ stored (actStores a w0 w1 w2 first W i) s
-acted-is a w0 w1 w2 first W i s s1 s2 s3 s4 s5 s6 e1 e2 e3 e4 e5 e6 =
+    → s5 ≡ stored (filled (some (first + 1)) (tokenOf (a .gives1))) s4 → s6 ≡ stored (kept W i left) s5
+    → s6 ≡ stored (actStores a left w0 w1 w2 first W i) s
+acted-is a left w0 w1 w2 first W i s s1 s2 s3 s4 s5 s6 e1 e2 e3 e4 e5 e6 =
     joined (emptied (some w0) (a .takes .in0)) (emptied (some w1) (a .takes .in1)) (emptied (some w2) (a .takes .in2))
-    (filled (some first) (tokenOf (a .gives0))) (filled (some (first + 1)) (tokenOf (a .gives1))) (kept W i (a .next)) s s1 s2 s3 s4 s5 s6 e1 e2 e3 e4 e5 e6
+    (filled (some first) (tokenOf (a .gives0))) (filled (some (first + 1)) (tokenOf (a .gives1))) (kept W i left) s s1 s2 s3 s4 s5 s6 e1 e2 e3 e4 e5 e6
 
 pub row-reads : (g : List ℕ) (i at : ℕ) {inputs outputs w0 w1 w2 f : ℕ} → at ≡ rowPlace g i
     → inputs ≡ column kindInputs (kindOf (getD g at 0)) → outputs ≡ column kindOutputs (kindOf (getD g at 0))

@@ -1,6 +1,6 @@
 -- What the inner functions of a firing promise one another.
 --
---   actStores, Room           the stores of an act on wires of these numbers, and that those wires are in the state
+--   actStores, Room           the stores of an act on wires of these numbers, with the record left, and that those wires are in the state
 --   Reads                     a row struct holds the words of node i
 --   Within, Sees              the wires of a row are in the state; what is seen there
 --   Placed                    what a caller of `fire_node` has checked: the graph's shape, that node i is one of its nodes, that its wires are
@@ -18,20 +18,21 @@ use Rattle.word.specs.Words.{pick, wordLimit}
 use Rattle.step.specs.Kinds.{kindOf, inputs, outputs, Input, Output}
 use Rattle.step.specs.Shown.{tokenOf}
 use Rattle.step.specs.declared.Act.{Act}
+use Rattle.step.specs.declared.Record.{Record}
 use Rattle.step.specs.declared.Seen.{Seen}
 use Rattle.graph.specs.Graph.{nodeCount, wireCount, rowPlace, column, inputAt, outputAt}
 use Rattle.graph.specs.Refusal.{Shaped}
 use Rattle.state.specs.State.{Stores, emptied, filled, kept, tokenOn, hasRoom}
 use Rattle.firing.specs.declared.Row.{Row}
 
-abbrev pub actStores : Act → ℕ → ℕ → ℕ → ℕ → ℕ → ℕ → Stores
-actStores a w0 w1 w2 first W i =
+abbrev pub actStores : Act → Record → ℕ → ℕ → ℕ → ℕ → ℕ → ℕ → Stores
+actStores a left w0 w1 w2 first W i =
     emptied (some w0) (a .takes .in0)
     ++ (emptied (some w1) (a .takes .in1)
     ++ (emptied (some w2) (a .takes .in2)
     ++ (filled (some first) (tokenOf (a .gives0))
     ++ (filled (some (first + 1)) (tokenOf (a .gives1))
-    ++ kept W i (a .next)))))
+    ++ kept W i left))))
 
 pub record Room (a : Act) (w0 w1 w2 first W i len : ℕ) : Type 0 where
   pub room0 : a .takes .in0 ≡ true → 2 * w0 + 1 < len

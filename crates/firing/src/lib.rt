@@ -7,7 +7,8 @@ ghost use Prim.Native.Nat.{ℕ, _+_, _*_, _<_, _≤_};
 ghost use lib.ListN.{length, getD, set};
 ghost use Rattle.word.specs.Words.{pick};
 ghost use Rattle.step.specs.Shown.{tokenOf, shown};
-ghost use Rattle.graph.specs.Graph.{nodeCount};
+ghost use Rattle.lent.specs.Left.{leftBy};
+ghost use Rattle.graph.specs.Graph.{nodeCount, wireCount};
 ghost use Rattle.graph.specs.Refusal.{Shaped};
 ghost use Rattle.state.specs.Net.{effectAt, fire, isReady, orElse, netOf};
 ghost use Rattle.firing.specs.Acted.{actStores, Room, Reads, Within, Sees, Placed};
@@ -112,10 +113,11 @@ fn keep(state: &mut [u32], wires: usize, i: usize, left: step::Record)
     state[at + 3] = left.r2;
 }
 
-// All that a firing does: three inputs, two outputs, the record.
+// All that a firing does: three inputs, two outputs, and the record that it left.
 fn act(
     state: &mut [u32],
     done: step::Act,
+    left: step::Record,
     w0: usize,
     w1: usize,
     w2: usize,
@@ -124,7 +126,7 @@ fn act(
     i: usize,
 )
     requires { ⌜ Room done w0 w1 w2 first wires i (length (now state)) ⌝ }
-    ensures state { λ r. ⌜ now (state .exit) ≡ stored (actStores done w0 w1 w2 first wires i) (now (state .entry)) ⌝ }
+    ensures state { λ r. ⌜ now (state .exit) ≡ stored (actStores done left w0 w1 w2 first wires i) (now (state .entry)) ⌝ }
 {
     let takes = done.takes;
     take_if(state, takes.in0, w0);
@@ -132,7 +134,7 @@ fn act(
     take_if(state, takes.in2, w2);
     give_if(state, done.gives0, first);
     give_if(state, done.gives1, first + 1);
-    keep(state, wires, i, done.next);
+    keep(state, wires, i, left);
 }
 
 // A node's row, read once: the numbers of its wires, and how many places its kind has.
@@ -192,15 +194,15 @@ pub fn see(state: &[u32], row: Row) -> step::Seen
     }
 }
 
-// What the node would do now.
-fn look(graph: &[u32], state: &[u32], row: Row, i: usize) -> step::Firing
+// What the node would do now, and its record after that. The record is taken out of the state and lent to the firing, which changes it in place.
+fn look(graph: &[u32], state: &[u32], row: Row, i: usize) -> lent::After
     requires { ⌜ Placed (now graph) i (length (now state)) × Reads (now graph) i row ⌝ }
-    ensures effect { λ r. ⌜ shown r ≡ effectAt (netOf (now (graph .entry))) i (now (state .entry)) ⌝ }
+    ensures effect { λ r. ⌜ (shown (r .firing) ≡ effectAt (netOf (now (graph .entry))) i (now (state .entry))) × (r .own ≡ leftBy (effectAt (netOf (now (graph .entry))) i (now (state .entry))) (recordAt (wireCount (now (graph .entry))) (now (state .entry)) i)) ⌝ }
 {
     let wires = graph::wide(graph[1]);
     let seen = see(state, row);
     let own = record_at(state, wires, i);
-    step::step(row.kind, row.code, seen, own)
+    lent::advanced(row.kind, row.code, seen, own)
 }
 
 // Whether node i is ready.
@@ -209,7 +211,8 @@ pub fn node_ready(graph: &[u32], state: &[u32], i: usize) -> bool
     ensures ready { λ r. ⌜ r ≡ isReady (fire (netOf (now (graph .entry))) i (now (state .entry))) ⌝ }
 {
     let row = row_of(graph, i);
-    let firing = look(graph, state, row, i);
+    let looked = look(graph, state, row, i);
+    let firing = looked.firing;
     match firing {
         step::Firing::NotReady => false,
         step::Firing::Fires(_) => true,
@@ -223,13 +226,16 @@ pub fn fire_node(graph: &[u32], state: &mut [u32], i: usize) -> bool
 {
     let row = row_of(graph, i);
     let wires = graph::wide(graph[1]);
-    let firing = look(graph, state, row, i);
+    let looked = look(graph, state, row, i);
+    let firing = looked.firing;
+    let left = looked.own;
     match firing {
         step::Firing::NotReady => false,
         step::Firing::Fires(done) => {
             act(
                 state,
                 done,
+                left,
                 row.wire0,
                 row.wire1,
                 row.wire2,

@@ -30,7 +30,7 @@ same-length : tie.Need-same-length
 same-length c = search needs
 
 returns : tie.Need-returns
-returns c = let a = c .before .before .before .before .before .before .before .before .before .before .before .before .before .before .before .before .before .before .before .before .before .before .before .before .before .before .args in acted-is (a .done) (a .w0) (a .w1) (a .w2) (a .first) (a .wires) (a .i) _ _ _ _ _ _ _
+returns c = let a = c .before .before .before .before .before .before .before .before .before .before .before .before .before .before .before .before .before .before .before .before .before .before .before .before .before .before .args in acted-is (a .done) (a .left) (a .w0) (a .w1) (a .w2) (a .first) (a .wires) (a .i) _ _ _ _ _ _ _
     (c .before .before .before .before .before .before .before .before .before .before .before .before .before .before .before .before .before .before .before .before .before .before .take-if .ensures) (c .before .before .before .before .before .before .before .before .before .before .before .before .before .before .before .before .before .before .take-if2 .ensures) (c .before .before .before .before .before .before .before .before .before .before .before .before .before .before .take-if3 .ensures) (c .before .before .before .before .before .before .before .before .before .before .give-if .ensures) (c .before .before .before .before .before .before .give-if2 .ensures) (c .before .before .keep .ensures)
 
 pub act-spec : {M : Type 1} → statement M

@@ -23,19 +23,19 @@ enum-known-firing : tie.Need-enum-known-firing
 enum-known-firing c = search needs
 
 act-requires : tie.Need-act-requires
-act-requires c κs = act-room _ _ (c .before .before .before .before .before .before .before .before .before .before .before .pre .node) _ (c .before .before .before .before .before .before .before .before .row-of .ensures) _ (c .before .before .before .before .look .result) (c .before .before .before .before .look .ensures) _ (c .before .before .firing .given .1) _ (c .before .before .before .before .before .before .wide .ensures .0) _ (c .before .before .before .before .before .before .before .before .before .before .before .pre)
+act-requires c κs = act-room _ _ (c .before .before .before .before .before .before .before .before .before .before .before .before .pre .node) _ (c .before .before .before .before .before .before .before .before .before .row-of .ensures) _ (c .before .before .before .before .before .look .result .firing) (c .before .before .before .before .before .look .ensures .0) _ (c .before .before .firing .given .1) _ (c .before .before .before .before .before .before .before .wide .ensures .0) _ (c .before .before .before .before .before .before .before .before .before .before .before .before .pre)
 
 same-length : tie.Need-same-length
 same-length c = search needs
 
 returns : tie.Need-returns
-returns c = node-waits _ _ (c .before .before .before .before .before .before .before .before .before .pre .node) _ (c .before .before .before .before .before .before .row-of .ensures) _ (c .before .before .look .result) (c .before .before .look .ensures) (c .enum-told .given .1)
+returns c = node-waits _ _ (c .before .before .before .before .before .before .before .before .before .before .pre .node) _ (c .before .before .before .before .before .before .before .row-of .ensures) _ (c .before .before .before .look .result .firing) (c .before .before .before .look .ensures .0) (c .enum-told .given .1)
 
 same-length-2 : tie.Need-same-length-2
 same-length-2 c = search needs
 
 returns-2 : tie.Need-returns-2
-returns-2 c = node-fires _ _ (c .before .before .before .before .before .before .before .before .before .before .before .before .before .before .pre .node) _ (c .before .before .before .before .before .before .before .before .before .before .before .row-of .ensures) _ (c .before .before .before .before .before .before .before .look .result) (c .before .before .before .before .before .before .before .look .ensures) _ (c .before .before .before .before .before .firing .given .1) _ (c .before .before .before .before .before .before .before .before .before .wide .ensures .0) _ (c .before .before .act .ensures)
+returns-2 c = node-fires _ _ (c .before .before .before .before .before .before .before .before .before .before .before .before .before .before .before .pre .node) _ (c .before .before .before .before .before .before .before .before .before .before .before .before .row-of .ensures) _ (c .before .before .before .before .before .before .before .before .look .result .firing) (c .before .before .before .before .before .before .before .before .look .ensures .0) _ (c .before .before .before .before .before .firing .given .1) _ (c .before .before .before .before .before .before .before .before .before .before .wide .ensures .0) _ _ (c .before .before .before .before .before .before .before .before .look .ensures .1) _ (c .before .before .act .ensures)
 
 pub fire-node-spec : {M : Type 1} → statement M
 fire-node-spec =

@@ -1,5 +1,5 @@
 -- `firing::look` meets its contract. Assumes nothing.
-use Rattle.firing.proofs.Fired.{placed-within, effect-is}
+use Rattle.firing.proofs.Fired.{placed-within, effect-is, left-is}
 use borrow.Author.Needs.{needs}
 use Rattle.firing.proofs.look.Statement.{statement}
 use Rattle.firing.proofs.look.Tie as tie
@@ -16,11 +16,11 @@ see-requires c κs = placed-within _ _ (c .before .before .before .before .pre .
 record-at-requires : tie.Need-record-at-requires
 record-at-requires c κs = search needs
 
-step-requires : tie.Need-step-requires
-step-requires c κs = search needs
+advanced-requires : tie.Need-advanced-requires
+advanced-requires c κs = search needs
 
 returns : tie.Need-returns
-returns c = effect-is _ _ (c .before .before .before .before .before .before .before .pre .0 .node) _ (c .before .before .before .before .before .before .before .pre .1) _ _ (c .before .before .before .wide .ensures .0) _ _ (c .step .result) (c .before .before .see .ensures) (c .before .record-at .ensures) (c .step .ensures)
+returns c = (effect-is _ _ (c .before .before .before .before .before .before .before .pre .0 .node) _ (c .before .before .before .before .before .before .before .pre .1) _ _ (c .before .before .before .wide .ensures .0) _ _ (c .advanced .result .firing) (c .before .before .see .ensures) (c .before .record-at .ensures) (c .advanced .ensures .0), left-is _ _ (c .before .before .before .before .before .before .before .pre .0 .node) _ (c .before .before .before .before .before .before .before .pre .1) _ _ (c .before .before .before .wide .ensures .0) _ _ (c .advanced .result .firing) (c .before .before .see .ensures) (c .before .record-at .ensures) (c .advanced .ensures .0) _ (c .advanced .ensures .1))
 
 pub look-spec : {M : Type 1} → statement M
 look-spec =
@@ -30,5 +30,5 @@ look-spec =
     wide-requires
     see-requires
     record-at-requires
-    step-requires
+    advanced-requires
     returns)

@@ -17,10 +17,10 @@ enum-told-2 : tie.Need-enum-told-2
 enum-told-2 c = search needs
 
 returns : tie.Need-returns
-returns c = node-waits _ _ (c .before .before .before .before .before .before .pre .node) _ (c .before .before .before .row-of .ensures) _ (c .before .before .look .result) (c .before .before .look .ensures) (c .enum-told .given .1) .0
+returns c = node-waits _ _ (c .before .before .before .before .before .before .pre .node) _ (c .before .before .before .row-of .ensures) _ (c .before .before .look .result .firing) (c .before .before .look .ensures .0) (c .enum-told .given .1) .0
 
 returns-2 : tie.Need-returns-2
-returns-2 c = fires-ready _ _ (c .before .before .before .before .before .before .pre .node) _ (c .before .before .before .row-of .ensures) _ (c .before .before .look .result) (c .before .before .look .ensures) _ (c .enum-told2 .given .1)
+returns-2 c = fires-ready _ _ (c .before .before .before .before .before .before .pre .node) _ (c .before .before .before .row-of .ensures) _ (c .before .before .look .result .firing) (c .before .before .look .ensures .0) _ (c .enum-told2 .given .1)
 
 pub node-ready-spec : {M : Type 1} → statement M
 node-ready-spec =
