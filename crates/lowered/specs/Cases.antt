@@ -1,4 +1,10 @@
--- The register's tables lowered: the sum table's 102 words as document 01 prints them.
+-- Tables lowered by computing: the register's two, and one for each thing that a table may hold.
+--
+--   sum-table-lowers-to-the-102-words     as document 01 prints them
+--   p12-lowers                            loops in loops, values carried in
+--   input-out-has-no-nodes, unused-values-are-drained, eight-loops-lower, a-carried-flag-keeps-its-sort
+--   lowering-computes                     opens every definition that a lowering computes with
+--
 -- Assumes nothing.
 use Prim.Native.Nat.{ℕ}
 use mathlib.Core.Path.{_≡_, refl}
@@ -9,7 +15,8 @@ use Rattle.graph.specs.SumGraph.{sumGraph}
 use Rattle.table.specs.Rows.{operandCount, firstOperand, sortOf}
 use Rattle.table.specs.Scan.{after, stackAt, bodyOf, readStack, reads, homeBy, home}
 use Rattle.table.specs.Bodies.{ends, endFrom, endOf, argsFrom, argsOf, argOf, nextOf}
-use Rattle.table.specs.Cases.{sumTable, p12Table}
+use lib.ListN.{take}
+use Rattle.table.specs.Cases.{input, const, op, pick, loop, arg, next, close, out, nested, sumTable, p12Table}
 use Rattle.lowered.specs.Gathered.{gathered, those, some?, each, position}
 use Rattle.lowered.specs.Roles.{sameRole, sameOutput, sameInput, sameWire, sameUse}
 use Rattle.lowered.specs.Sources.{inside, names, carried, homeWire, valueWire, feed, source}
@@ -73,3 +80,54 @@ p12Graph =
 pub p12-lowers : loweredWords p12Table ≡ p12Graph
 unfolding lowering-computes p12Graph
 p12-lowers = refl
+
+-- 'INPUT; OUT 0 has no nodes.'
+pub input-out-has-no-nodes : loweredWords (input (out 0)) ≡ 0 ∷ 1 ∷ 1 ∷ 1 ∷ 0 ∷ 0 ∷ 0 ∷ []
+unfolding lowering-computes
+input-out-has-no-nodes = refl
+
+-- an unused value is drained: CONST 7, CONST 8, OUT 1
+pub unused-values-are-drained : loweredWords (const 7 (const 8 (out 1))) ≡ 1 ∷ 2 ∷ 2 ∷ 1 ∷ 1 ∷ 7 ∷ 1 ∷ 8 ∷ 1 ∷ 6 ∷ 0 ∷ 0 ∷ 0 ∷ absent ∷ absent ∷ absent ∷ []
+unfolding lowering-computes
+unused-values-are-drained = refl
+
+abbrev headerOf : List ℕ → List ℕ
+headerOf g = take 4 g
+
+-- eight nested loops: each stream, gate and guard; the CONST is carried into all but the innermost
+pub eight-loops-lower : headerOf (loweredWords (nested 8)) ≡ 95 ∷ 142 ∷ 1 ∷ 1 ∷ []
+unfolding lowering-computes
+eight-loops-lower = refl
+
+-- a flag carried into a loop keeps its sort: its SPLIT, INVARIANT and FORKs are of sort 1
+abbrev flagTable : List ℕ
+flagTable = input (const 1 (op 3 0 1 (loop 1 1 0 0 0 (arg 1 (pick 2 4 3 (next 5 (close (out 6))))))))
+
+unfoldable pub flagGraph : List ℕ
+flagGraph =
+    18 ∷ 31 ∷ 2 ∷ 1 ∷
+    0 ∷ 0 ∷
+    1 ∷ 1 ∷
+    13 ∷
+    7 ∷ 3 ∷ 0 ∷ 15 ∷ 19 ∷ absent ∷ 2 ∷
+    0 ∷ 0 ∷ 0 ∷ 21 ∷ 23 ∷ 17 ∷ 3 ∷
+    1 ∷ 0 ∷ 0 ∷ 3 ∷ 27 ∷ absent ∷ 5 ∷
+    7 ∷ 3 ∷ 0 ∷ 25 ∷ 18 ∷ absent ∷ 7 ∷
+    4 ∷ 0 ∷ 1 ∷ 7 ∷ 2 ∷ absent ∷ 8 ∷
+    3 ∷ 0 ∷ 1 ∷ 6 ∷ 8 ∷ absent ∷ 10 ∷
+    2 ∷ 0 ∷ 0 ∷ 29 ∷ 26 ∷ 14 ∷ 11 ∷
+    4 ∷ 0 ∷ 0 ∷ 30 ∷ 11 ∷ absent ∷ 12 ∷
+    8 ∷ 0 ∷ 0 ∷ 10 ∷ 12 ∷ 5 ∷ 14 ∷
+    5 ∷ 0 ∷ 0 ∷ 0 ∷ absent ∷ absent ∷ 15 ∷
+    5 ∷ 0 ∷ 0 ∷ 16 ∷ absent ∷ absent ∷ 17 ∷
+    5 ∷ 0 ∷ 0 ∷ 1 ∷ absent ∷ absent ∷ 19 ∷
+    5 ∷ 0 ∷ 0 ∷ 20 ∷ absent ∷ absent ∷ 21 ∷
+    5 ∷ 0 ∷ 0 ∷ 22 ∷ absent ∷ absent ∷ 23 ∷
+    5 ∷ 0 ∷ 0 ∷ 24 ∷ absent ∷ absent ∷ 25 ∷
+    5 ∷ 0 ∷ 1 ∷ 4 ∷ absent ∷ absent ∷ 27 ∷
+    5 ∷ 0 ∷ 1 ∷ 28 ∷ absent ∷ absent ∷ 29 ∷
+    6 ∷ 0 ∷ 1 ∷ 9 ∷ absent ∷ absent ∷ absent ∷ []
+
+pub a-carried-flag-keeps-its-sort : loweredWords flagTable ≡ flagGraph
+unfolding lowering-computes flagGraph
+a-carried-flag-keeps-its-sort = refl
