@@ -1,0 +1,3 @@
+-- What is true of a lowered table: its nodes, wires and uses are listed once, every use has a made wire, and the graph is accepted.
+pub mod Lists
+pub mod Listed
