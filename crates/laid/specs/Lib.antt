@@ -1,3 +1,4 @@
 -- What is true of a lowered table: its nodes, wires and uses are listed once, every use has a made wire, and the graph is accepted.
 pub mod Lists
 pub mod Listed
+pub mod Reached
