@@ -2,3 +2,4 @@
 pub mod Lists
 pub mod Listed
 pub mod Reached
+pub mod Made
