@@ -3,3 +3,4 @@ pub mod Lists
 pub mod Listed
 pub mod Reached
 pub mod Made
+pub mod Legs
