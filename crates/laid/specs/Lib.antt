@@ -4,3 +4,4 @@ pub mod Listed
 pub mod Reached
 pub mod Made
 pub mod Legs
+pub mod Indexed
