@@ -5,3 +5,4 @@ pub mod Reached
 pub mod Made
 pub mod Legs
 pub mod Indexed
+pub mod Words
