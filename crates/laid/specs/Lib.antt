@@ -6,3 +6,4 @@ pub mod Made
 pub mod Legs
 pub mod Indexed
 pub mod Words
+pub mod Taken
