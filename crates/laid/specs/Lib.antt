@@ -7,3 +7,4 @@ pub mod Legs
 pub mod Indexed
 pub mod Words
 pub mod Taken
+pub mod Sorted
