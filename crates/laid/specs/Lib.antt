@@ -8,3 +8,4 @@ pub mod Indexed
 pub mod Words
 pub mod Taken
 pub mod Sorted
+pub mod Numbered
