@@ -29,7 +29,8 @@ use Rattle.lowered.specs.Sources.{source}
 use Rattle.lowered.specs.Lower.{roles, roleKind, roleCode, roleSort, starts, outputsBy, roleOutputs, wires, wireSort, users, drainNode, forkNode, forkRows, forkWires, freeAt, allForkWires, usersEach, plainWires, allUsers, standsBy, standsOn, roleNode, nodesFrom, forksFrom, loweredNodes, wireTotal, loweredWords}
 use Rattle.laid.specs.Lists.{Among, in-range, none-some}
 use Rattle.laid.specs.Indexed.{total-first, sumOf, sum-append}
-use Rattle.laid.specs.Listed.{Real, listed-role-is-real, node-use-is-listed}
+use Rattle.laid.specs.Listed.{Real, listed-role-is-real}
+use Rattle.laid.specs.Uses.{node-use-is-listed}
 use Rattle.laid.specs.Made.{op-kind, op-is-OP, pick-is-PICK, node-source}
 use Rattle.laid.specs.Taken.{present, missing, stands-below, free-high}
 use Rattle.laid.specs.Sorted.{wire-sorted, new-wire-sorted, stands-sorted}
@@ -76,9 +77,10 @@ fork-spare s x f in2 e = refl
 fork-right : (s x : ℕ) (us : List Use) (f : ℕ) → s < 2 → AllRight f (forkRows s x us f)
 fork-right s x [] f h = (record { code-below = omega arith; sort-below = h; spare = drain-spare s x; numbered = λ z. absurd (omega arith); unnumbered = λ z. refl }, tt)
 fork-right s x (u ∷ []) f h = tt
-fork-right s x (u ∷ v ∷ us) f h =
-    (record { code-below = omega arith; sort-below = h; spare = fork-spare s x f; numbered = λ z. refl; unnumbered = λ z. absurd (omega arith) },
-    subst (λ (z : ℕ). AllRight z (forkRows s (suc f) (v ∷ us) (suc (suc f)))) (let e : suc (suc f) ≡ f + 2 = omega arith in e) (fork-right s (suc f) (v ∷ us) (suc (suc f)) h))
+fork-right s x (u ∷ v ∷ us) f h = (
+  record { code-below = omega arith; sort-below = h; spare = fork-spare s x f; numbered = λ z. refl; unnumbered = λ z. absurd (omega arith) },
+  subst (λ (z : ℕ). AllRight z (forkRows s (suc f) (v ∷ us) (suc (suc f)))) (let e : suc (suc f) ≡ f + 2 = omega arith in e) (fork-right s (suc f) (v ∷ us) (suc (suc f)) h),
+)
 
 fork-outs : (s x : ℕ) (us : List Use) (f : ℕ) → sumOf outs (forkRows s x us f) ≡ forkWires us
 fork-outs s x [] f = refl
@@ -172,15 +174,16 @@ module _ (t : List ℕ) (S : Structure t) where
   roles-right : (ns : List Role) (f : ℕ) → ((n : Role) → Among n ns → Real t n) → AllRight f (nodesFrom t f ns)
   roles-right [] f h = tt
   roles-right (n ∷ ns) f h =
-      let l = h n (inl refl) in
-      (record {
-        code-below = code-right n l;
-        sort-below = sort-right n l;
-        spare = role-spare n f l;
-        numbered = λ z. refl;
-        unnumbered = λ z. absurd (some-output n l z);
-      },
-      roles-right ns (f + outputs (roleKind t n)) (λ m q. h m (inr q)))
+      let l = h n (inl refl) in (
+        record {
+          code-below = code-right n l;
+          sort-below = sort-right n l;
+          spare = role-spare n f l;
+          numbered = λ z. refl;
+          unnumbered = λ z. absurd (some-output n l z);
+        },
+        roles-right ns (f + outputs (roleKind t n)) (λ m q. h m (inr q)),
+      )
 
   outputs-long : (n : Role) (k : ℕ) → k < 3 → length (outputsBy n k) ≡ k
   outputs-long n zero h = refl
@@ -303,10 +306,11 @@ module _ (t : List ℕ) (S : Structure t) where
       sorted in1 e = let z : _≡_ {A = ℕ} 0 1 = cc in absurd (omega arith)
       sorted in2 e = let z : _≡_ {A = ℕ} 0 1 = cc in absurd (omega arith)
   fork-fits s x (u ∷ []) f h g = tt
-  fork-fits s x (u ∷ v ∷ us) f h g =
-      (record { below = below; sorted = sorted },
-      fork-fits s (suc f) (v ∷ us) (suc (suc f)) (subst (Sound s) (let e : f + 1 ≡ suc f = omega arith in e) (g 1 (omega arith)))
-      (λ j l. subst (Sound s) (let e : f + suc (suc j) ≡ suc (suc f) + j = omega arith in e) (g (suc (suc j)) (omega arith))))
+  fork-fits s x (u ∷ v ∷ us) f h g = (
+    record { below = below; sorted = sorted },
+    fork-fits s (suc f) (v ∷ us) (suc (suc f)) (subst (Sound s) (let e : f + 1 ≡ suc f = omega arith in e) (g 1 (omega arith)))
+        (λ j l. subst (Sound s) (let e : f + suc (suc j) ≡ suc (suc f) + j = omega arith in e) (g (suc (suc j)) (omega arith))),
+  )
     where
       below : (k : Input) → hasInput FORK k ≡ true → wireOn (forkNode s x f) k < wireTotal t
       below in0 e = h .0
