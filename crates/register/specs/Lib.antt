@@ -1,2 +1,4 @@
 pub mod Drive
+pub mod Runs
 pub mod Register
+pub mod Slips
