@@ -1,0 +1,147 @@
+-- Where each input and each result of a lowered table comes from: document 01, 'Lowering', its first paragraph and the list of nodes.
+--
+--   inside, carried       which values are carried into a loop
+--   valueWire             the wire on which a value comes to a body
+--   Feed, feed            what an input or a result takes: a value in a body, or a wire of its own loop
+--   source                the wire of it
+--
+-- A body is named by its FOR row, the outermost one by the row count.
+-- Assumes nothing.
+use Prim.Native.Nat.{ℕ}
+use mathlib.Core.Bool.{Bool, true, false, cond, not, _&&_, _||_}
+use mathlib.Core.List.{List}
+use mathlib.Core.Option.{Option, none, some}
+use lib.Dec.{eqb, leb}
+use Rattle.step.specs.Kinds.{Input, in0, in1, in2, Output, out0, out1}
+use Rattle.table.specs.Rows.{kindOf, size, operandCount, CONST, OP, PICK, FOR, ARG, OUT}
+use Rattle.table.specs.Scan.{stackAt, bodyOf, reads, home, holds}
+use Rattle.table.specs.Bodies.{operand, argOf, nextOf}
+use Rattle.lowered.specs.Gathered.{some?}
+use Rattle.lowered.specs.Roles.{Role, opNode, stream, gate, guard, copySplit, copyInvariant, carry, argSplit, Wire, start, output, Use, into, result}
+
+-- body B is loop L, or lies in it
+unfoldable pub inside : List ℕ → ℕ → ℕ → Bool
+inside t L B = eqb B L || holds L (stackAt t B)
+
+-- v is an operand of row r
+unfoldable pub names : List ℕ → ℕ → ℕ → Bool
+names t r v = some? (λ j. eqb (operand t r j) v) (operandCount (kindOf t r))
+
+-- '"Carried into L": each value whose home is outside L and which is an operand inside L at any depth, L's NEXTs included, L's own FOR
+-- and ARG operands not.' An operand is where it is read: a NEXT's in its loop, those of FOR and ARG in the body around.
+unfoldable pub carried : List ℕ → ℕ → ℕ → Bool
+carried t L v = not (inside t L (home t v)) && some? (λ r. inside t L (reads t r) && names t r v) (size t)
+
+-- A value's wire at home. INPUT and CONST are starts. OP, PICK: one node. 'The index is GATE's value.' Of an ARG's SPLIT the 'true leg
+-- is the ARG, false leg the exit word'; the exit word is the NEXT's value.
+unfoldable pub homeWire : List ℕ → ℕ → Wire
+homeWire t v =
+    cond (leb (kindOf t v) CONST) (start v)
+    (cond (leb (kindOf t v) PICK) (output (opNode v) out0)
+    (cond (eqb (kindOf t v) FOR) (output (gate v) out0)
+    (cond (eqb (kindOf t v) ARG) (output (argSplit v) out0) (output (argSplit (argOf t v)) out1))))
+
+-- 'Where a body uses a value of an outer body, its source is the copy made for this loop.'
+unfoldable pub valueWire : List ℕ → ℕ → ℕ → Wire
+valueWire t v B = cond (eqb (home t v) B) (homeWire t v) (output (copyInvariant B v) out0)
+
+-- what an input takes: a value in a body, a wire of its own loop, or nothing where there is no such input
+pub data Feed : Type 0 where
+  value : ℕ → ℕ → Feed
+  inner : Wire → Feed
+  nothing : Feed
+
+-- operand j of row r, in the body in which the row reads
+abbrev pub named : List ℕ → ℕ → ℕ → Feed
+named t r j = value (operand t r j) (reads t r)
+
+abbrev pub isOp : List ℕ → ℕ → Bool
+isOp t r = eqb (kindOf t r) OP || eqb (kindOf t r) PICK
+
+abbrev pub isFor : List ℕ → ℕ → Bool
+isFor t L = eqb (kindOf t L) FOR
+
+abbrev pub isArgRow : List ℕ → ℕ → Bool
+isArgRow t a = eqb (kindOf t a) ARG
+
+-- a table has this node
+abbrev pub has : List ℕ → Role → Bool
+has t (opNode r) = isOp t r
+has t (stream L) = isFor t L
+has t (gate L) = isFor t L
+has t (guard L) = isFor t L
+has t (copySplit L v) = isFor t L && carried t L v
+has t (copyInvariant L v) = isFor t L && carried t L v
+has t (carry a) = isArgRow t a
+has t (argSplit a) = isArgRow t a
+
+-- OP x, y; PICK flag, x, y
+abbrev pub opFeed : List ℕ → ℕ → Input → Feed
+opFeed t r in0 = named t r 0
+opFeed t r in1 = named t r 1
+opFeed t r in2 = cond (eqb (kindOf t r) PICK) (named t r 2) nothing
+
+-- 'STREAM(start, step, bound)'
+abbrev pub streamFeed : List ℕ → ℕ → Input → Feed
+streamFeed t L in0 = named t L 0
+streamFeed t L in1 = named t L 1
+streamFeed t L in2 = named t L 2
+
+-- 'GATE(raw index, raw condition)'
+abbrev pub gateFeed : ℕ → Input → Feed
+gateFeed L in0 = inner (output (stream L) out0)
+gateFeed L in1 = inner (output (stream L) out1)
+gateFeed L in2 = nothing
+
+-- 'a guard, an OP comparing start with bound by the loop's condition'
+abbrev pub guardFeed : List ℕ → ℕ → Input → Feed
+guardFeed t L in0 = named t L 0
+guardFeed t L in1 = named t L 2
+guardFeed t L in2 = nothing
+
+-- 'SPLIT(guard, value)': 'the copy's own source is found one loop further out each time'
+abbrev pub copySplitFeed : List ℕ → ℕ → ℕ → Input → Feed
+copySplitFeed t L v in0 = inner (output (guard L) out0)
+copySplitFeed t L v in1 = value v (reads t L)
+copySplitFeed t L v in2 = nothing
+
+-- 'INVARIANT(gated condition, true leg)'
+abbrev pub copyInvariantFeed : ℕ → ℕ → Input → Feed
+copyInvariantFeed L v in0 = inner (output (gate L) out1)
+copyInvariantFeed L v in1 = inner (output (copySplit L v) out0)
+copyInvariantFeed L v in2 = nothing
+
+-- 'CARRY(raw condition, initial, next)'
+abbrev pub carryFeed : List ℕ → ℕ → Input → Feed
+carryFeed t a in0 = inner (output (stream (bodyOf t a)) out1)
+carryFeed t a in1 = named t a 0
+carryFeed t a in2 = named t (nextOf t a) 0
+
+-- 'SPLIT(raw condition, carry)'
+abbrev pub argSplitFeed : List ℕ → ℕ → Input → Feed
+argSplitFeed t a in0 = inner (output (stream (bodyOf t a)) out1)
+argSplitFeed t a in1 = inner (output (carry a) out0)
+argSplitFeed t a in2 = nothing
+
+abbrev pub roleFeed : List ℕ → Role → Input → Feed
+roleFeed t (opNode r) k = opFeed t r k
+roleFeed t (stream L) k = streamFeed t L k
+roleFeed t (gate L) k = gateFeed L k
+roleFeed t (guard L) k = guardFeed t L k
+roleFeed t (copySplit L v) k = copySplitFeed t L v k
+roleFeed t (copyInvariant L v) k = copyInvariantFeed L v k
+roleFeed t (carry a) k = carryFeed t a k
+roleFeed t (argSplit a) k = argSplitFeed t a k
+
+-- a node that the table does not have takes nothing; a result is what its OUT row names
+unfoldable pub feed : List ℕ → Use → Feed
+feed t (into n k) = cond (has t n) (roleFeed t n k) nothing
+feed t (result q) = cond (eqb (kindOf t q) OUT) (named t q 0) nothing
+
+abbrev pub wireOf : List ℕ → Feed → Option Wire
+wireOf t (value v B) = some (valueWire t v B)
+wireOf t (inner w) = some w
+wireOf t nothing = none
+
+unfoldable pub source : List ℕ → Use → Option Wire
+source t u = wireOf t (feed t u)

@@ -1,0 +1,1 @@
+// Lowering: definitions and theorems alone, in specs/.
