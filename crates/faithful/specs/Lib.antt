@@ -1,0 +1,11 @@
+pub mod Table
+pub mod Good
+pub mod Gamma
+pub mod StepOp
+pub mod Loop
+pub mod Stages
+pub mod Turn
+pub mod For
+pub mod End
+pub mod Begin
+pub mod Finish
