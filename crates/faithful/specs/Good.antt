@@ -19,7 +19,7 @@ use Rattle.step.specs.declared.Record.{Record}
 use Rattle.table.specs.Bodies.{Row, input, const, op, pick, for, arg, next, end, out, unknown}
 use Rattle.lowered.specs.Roles.{Role, sameRole, opNode, stream, gate, guard, copySplit, copyInvariant, carry, argSplit, Wire, start, output, Use, into, result}
 use Rattle.uses.specs.Machine.{Plan, State, giveBy, takeBy, nextBy, put, drop, listed, given, taken, viewOf, Among, Once, after, one, one-same, one-other, Ready, Steps, steps-append, stage-cover, those}
-use Rattle.faithful.specs.Table.{Table, Slot, val, inner, absent, named, homeWire, wireBy, bornBy, sinceBy, opSlot, streamSlot, guardSlot, gateSlot, csplitSlot, invSlot, carrySlot, asplitSlot, resultSlot, IsFor, outer, wireOf, born, since, slot, slotWire, src, isOp, isStart, isArg, isForRow, isIn, plan}
+use Rattle.faithful.specs.Table.{Table, Slot, val, inner, absent, named, homeWire, wireBy, bornBy, sinceBy, opSlot, streamSlot, guardSlot, gateSlot, copySplitSlot, copyInvariantSlot, carrySlot, argSplitSlot, resultSlot, IsFor, outer, wireOf, born, since, slot, slotWire, src, isOp, isStart, isArg, isForRow, isIn, plan}
 
 module _ (tb : Table) where
   -- row r stands in body B, and B is the innermost there
@@ -194,7 +194,7 @@ module _ (tb : Table) where
   when-carry g a unknown k v B c q h = let z : _≡_ {A = ℕ} 0 1 = cc in absurd (omega arith)
   when-carry g a (out x) k v B c q h = let z : _≡_ {A = ℕ} 0 1 = cc in absurd (omega arith)
 
-  when-split : Good → (L u : ℕ) (b : Bool) (k : Input) (v B c : ℕ) → tb .carried L u ≡ b → csplitSlot b (tb .reads L) L u k ≡ val v B c → When (into (copySplit L u) k) v B c
+  when-split : Good → (L u : ℕ) (b : Bool) (k : Input) (v B c : ℕ) → tb .carried L u ≡ b → copySplitSlot b (tb .reads L) L u k ≡ val v B c → When (into (copySplit L u) k) v B c
   when-split g L u false k v B c q h = let z : _≡_ {A = ℕ} 0 1 = cc in absurd (omega arith)
   when-split g L u true in0 v B c q h = let z : _≡_ {A = ℕ} 0 1 = cc in absurd (omega arith)
   when-split g L u true in1 v B c q h = at-for (into (copySplit L u) in1) L v B c (cc) (cc) (g .in-for L u q) (fSplit u refl q)
@@ -218,13 +218,13 @@ module _ (tb : Table) where
   not-gate true L in1 v B c h = let z : _≡_ {A = ℕ} 0 1 = cc in omega arith
   not-gate true L in2 v B c h = let z : _≡_ {A = ℕ} 0 1 = cc in omega arith
 
-  not-inv : (L u : ℕ) (b : Bool) (k : Input) (v B c : ℕ) → invSlot b L u k ≡ val v B c → ⊥
+  not-inv : (L u : ℕ) (b : Bool) (k : Input) (v B c : ℕ) → copyInvariantSlot b L u k ≡ val v B c → ⊥
   not-inv L u false k v B c h = let z : _≡_ {A = ℕ} 0 1 = cc in omega arith
   not-inv L u true in0 v B c h = let z : _≡_ {A = ℕ} 0 1 = cc in omega arith
   not-inv L u true in1 v B c h = let z : _≡_ {A = ℕ} 0 1 = cc in omega arith
   not-inv L u true in2 v B c h = let z : _≡_ {A = ℕ} 0 1 = cc in omega arith
 
-  not-asplit : (b : Bool) (L a : ℕ) (k : Input) (v B c : ℕ) → asplitSlot b L a k ≡ val v B c → ⊥
+  not-asplit : (b : Bool) (L a : ℕ) (k : Input) (v B c : ℕ) → argSplitSlot b L a k ≡ val v B c → ⊥
   not-asplit false L a k v B c h = let z : _≡_ {A = ℕ} 0 1 = cc in omega arith
   not-asplit true L a in0 v B c h = let z : _≡_ {A = ℕ} 0 1 = cc in omega arith
   not-asplit true L a in1 v B c h = let z : _≡_ {A = ℕ} 0 1 = cc in omega arith
@@ -322,7 +322,7 @@ module _ (tb : Table) where
   in-carry a unknown B L x e k w q l h = let z : _≡_ {A = ℕ} 0 1 = cc in absurd (omega arith)
   in-carry a (out y) B L x e k w q l h = let z : _≡_ {A = ℕ} 0 1 = cc in absurd (omega arith)
 
-  in-split : (L u : ℕ) (b : Bool) (k : Input) (w : Wire) → tb .carried L u ≡ b → csplitSlot b (tb .reads L) L u k ≡ inner w → Inward (into (copySplit L u) k) w
+  in-split : (L u : ℕ) (b : Bool) (k : Input) (w : Wire) → tb .carried L u ≡ b → copySplitSlot b (tb .reads L) L u k ≡ inner w → Inward (into (copySplit L u) k) w
   in-split L u false k w q h = let z : _≡_ {A = ℕ} 0 1 = cc in absurd (omega arith)
   in-split L u true in0 w q h = nSplit L u refl (cc) q
   in-split L u true in1 w q h = let z : _≡_ {A = ℕ} 0 1 = cc in absurd (omega arith)
@@ -334,13 +334,13 @@ module _ (tb : Table) where
   in-gate L true in1 w q h = nGate1 L refl (cc) q
   in-gate L true in2 w q h = let z : _≡_ {A = ℕ} 0 1 = cc in absurd (omega arith)
 
-  in-inv : (L u : ℕ) (b : Bool) (k : Input) (w : Wire) → tb .carried L u ≡ b → invSlot b L u k ≡ inner w → Inward (into (copyInvariant L u) k) w
+  in-inv : (L u : ℕ) (b : Bool) (k : Input) (w : Wire) → tb .carried L u ≡ b → copyInvariantSlot b L u k ≡ inner w → Inward (into (copyInvariant L u) k) w
   in-inv L u false k w q h = let z : _≡_ {A = ℕ} 0 1 = cc in absurd (omega arith)
   in-inv L u true in0 w q h = nInv0 L u refl (cc) q
   in-inv L u true in1 w q h = nInv1 L u refl (cc) q
   in-inv L u true in2 w q h = let z : _≡_ {A = ℕ} 0 1 = cc in absurd (omega arith)
 
-  in-asplit : (a : ℕ) (b : Bool) (k : Input) (w : Wire) → isArg (tb .row a) ≡ b → asplitSlot b (tb .loop a) a k ≡ inner w → Inward (into (argSplit a) k) w
+  in-asplit : (a : ℕ) (b : Bool) (k : Input) (w : Wire) → isArg (tb .row a) ≡ b → argSplitSlot b (tb .loop a) a k ≡ inner w → Inward (into (argSplit a) k) w
   in-asplit a false k w q h = let z : _≡_ {A = ℕ} 0 1 = cc in absurd (omega arith)
   in-asplit a true in0 w q h = nArg0 a refl (cc) q
   in-asplit a true in1 w q h = nArg1 a refl (cc) q

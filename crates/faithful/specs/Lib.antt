@@ -9,3 +9,6 @@ pub mod For
 pub mod End
 pub mod Begin
 pub mod Finish
+pub mod Words
+pub mod Carried
+pub mod Sound

@@ -167,17 +167,17 @@ gateSlot true L in0 = inner (output (stream L) out0)
 gateSlot true L in1 = inner (output (stream L) out1)
 gateSlot true L in2 = absent
 
-abbrev pub csplitSlot : Bool → ℕ → ℕ → ℕ → Input → Slot
-csplitSlot false B L v k = absent
-csplitSlot true B L v in0 = inner (output (guard L) out0)
-csplitSlot true B L v in1 = val v B L
-csplitSlot true B L v in2 = absent
+abbrev pub copySplitSlot : Bool → ℕ → ℕ → ℕ → Input → Slot
+copySplitSlot false B L v k = absent
+copySplitSlot true B L v in0 = inner (output (guard L) out0)
+copySplitSlot true B L v in1 = val v B L
+copySplitSlot true B L v in2 = absent
 
-abbrev pub invSlot : Bool → ℕ → ℕ → Input → Slot
-invSlot false L v k = absent
-invSlot true L v in0 = inner (output (gate L) out1)
-invSlot true L v in1 = inner (output (copySplit L v) out0)
-invSlot true L v in2 = absent
+abbrev pub copyInvariantSlot : Bool → ℕ → ℕ → Input → Slot
+copyInvariantSlot false L v k = absent
+copyInvariantSlot true L v in0 = inner (output (gate L) out1)
+copyInvariantSlot true L v in1 = inner (output (copySplit L v) out0)
+copyInvariantSlot true L v in2 = absent
 
 -- i: the initial, B: where it is read; L: the loop; w: what its NEXT names; e: the END
 abbrev pub carrySlot : Row → ℕ → ℕ → ℕ → ℕ → Input → Slot
@@ -206,11 +206,11 @@ isArg end = false
 isArg unknown = false
 isArg (out x) = false
 
-abbrev pub asplitSlot : Bool → ℕ → ℕ → Input → Slot
-asplitSlot false L a k = absent
-asplitSlot true L a in0 = inner (output (stream L) out1)
-asplitSlot true L a in1 = inner (output (carry a) out0)
-asplitSlot true L a in2 = absent
+abbrev pub argSplitSlot : Bool → ℕ → ℕ → Input → Slot
+argSplitSlot false L a k = absent
+argSplitSlot true L a in0 = inner (output (stream L) out1)
+argSplitSlot true L a in1 = inner (output (carry a) out0)
+argSplitSlot true L a in2 = absent
 
 abbrev pub resultSlot : Row → ℕ → ℕ → Slot
 resultSlot input B e = absent
@@ -282,10 +282,10 @@ module _ (tb : Table) where
   slot (into (stream L) k) = streamSlot (tb .row L) (tb .reads L) L k
   slot (into (gate L) k) = gateSlot (isForRow (tb .row L)) L k
   slot (into (guard L) k) = guardSlot (tb .row L) (tb .reads L) L k
-  slot (into (copySplit L v) k) = csplitSlot (tb .carried L v) (tb .reads L) L v k
-  slot (into (copyInvariant L v) k) = invSlot (tb .carried L v) L v k
+  slot (into (copySplit L v) k) = copySplitSlot (tb .carried L v) (tb .reads L) L v k
+  slot (into (copyInvariant L v) k) = copyInvariantSlot (tb .carried L v) L v k
   slot (into (carry a) k) = carrySlot (tb .row a) (tb .reads (tb .loop a)) (tb .loop a) (named (tb .row (tb .nextOf a))) (tb .last (tb .loop a)) k
-  slot (into (argSplit a) k) = asplitSlot (isArg (tb .row a)) (tb .loop a) a k
+  slot (into (argSplit a) k) = argSplitSlot (isArg (tb .row a)) (tb .loop a) a k
   slot (result q) = resultSlot (tb .row q) (tb .size) (suc (tb .size))
 
   abbrev pub slotWire : Slot → Option Wire
