@@ -12,3 +12,5 @@ pub mod Finish
 pub mod Words
 pub mod Carried
 pub mod Sound
+pub mod Conditions
+pub mod Following
