@@ -15,15 +15,15 @@ use Rattle.graph.specs.SumGraph.{sumGraph}
 use Rattle.table.specs.Rows.{operandCount, firstOperand, sortOf}
 use Rattle.table.specs.Scan.{after, stackAt, bodyOf, readStack, reads, homeBy, home}
 use Rattle.table.specs.Bodies.{ends, endFrom, endOf, argsFrom, argsOf, argOf, nextOf}
-use lib.ListN.{take}
-use Rattle.table.specs.Cases.{input, const, op, pick, loop, arg, next, close, out, nested, sumTable, p12Table}
+use lib.ListN.{take, set}
+use Rattle.table.specs.Cases.{input, const, op, pick, loop, arg, next, close, out, nested, sumTable, sumBy, p12Table}
 use Rattle.lowered.specs.Gathered.{gathered, those, some?, each, position}
 use Rattle.lowered.specs.Roles.{sameRole, sameOutput, sameInput, sameWire, sameUse}
 use Rattle.lowered.specs.Sources.{inside, names, carried, homeWire, valueWire, feed, source}
 use Rattle.lowered.specs.Lower.{carriedInto, rowRoles, roles, startRows, starts, wires, wireNumber, outRows, uses, readersIn, users, legOf, plainNodes, plainWires, allUsers, standsOn, loweredNodes, nodeTotal, wireTotal, startTotal, resultTotal, loweredWords}
 
 -- everything that lowering computes with
-pub lowering-computes : ℕ
+unfoldable pub lowering-computes : ℕ
 unfolding operandCount firstOperand sortOf after stackAt bodyOf readStack reads homeBy home ends endFrom endOf argsFrom argsOf argOf nextOf gathered those some? each position sameRole sameOutput sameInput sameWire sameUse inside names carried homeWire valueWire feed source carriedInto rowRoles roles startRows starts wires wireNumber outRows uses readersIn users legOf plainNodes plainWires allUsers standsOn loweredNodes nodeTotal wireTotal startTotal resultTotal loweredWords native.Mathlib.Decide.ℕ-discrete
 lowering-computes = 0
 
@@ -131,3 +131,8 @@ flagGraph =
 pub a-carried-flag-keeps-its-sort : loweredWords flagTable ≡ flagGraph
 unfolding lowering-computes flagGraph
 a-carried-flag-keeps-its-sort = refl
+
+-- 'With row 2 changed to CONST 0': one word of the graph changes
+pub changed-row-changes-its-start : loweredWords (sumBy 0) ≡ set sumGraph 9 0
+unfolding lowering-computes sumGraph
+changed-row-changes-its-start = refl

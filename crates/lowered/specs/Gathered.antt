@@ -29,7 +29,7 @@ unfoldable pub each : {A B : Type 0} → (A → List B) → List A → List B
 each f [] = []
 each f (x ∷ xs) = f x ++ each f xs
 
-abbrev placeAfter : {A : Type 0} → Dec A → ℕ → ℕ
+abbrev pub placeAfter : {A : Type 0} → Dec A → ℕ → ℕ
 placeAfter (yes e) k = 0
 placeAfter (no e) k = suc k
 

@@ -126,11 +126,11 @@ outRows t = those (isOut t) (size t)
 unfoldable pub uses : List ℕ → List Use
 uses t = each (roleUses t) (roles t) ++ each (λ q. useIf t (result q)) (outRows t)
 
-abbrev keepIf : {A : Type 0} → Dec A → Use → List Use → List Use
+abbrev pub keepIf : {A : Type 0} → Dec A → Use → List Use → List Use
 keepIf (yes e) u us = u ∷ us
 keepIf (no e) u us = us
 
-abbrev readerOf : Wire → Option Wire → Use → List Use → List Use
+abbrev pub readerOf : Wire → Option Wire → Use → List Use → List Use
 readerOf w none u us = us
 readerOf w (some x) u us = keepIf (sameWire x w) u us
 
@@ -168,7 +168,7 @@ forkNodes [] = 1
 forkNodes (u ∷ []) = 0
 forkNodes (u ∷ v ∷ us) = suc (forkNodes (v ∷ us))
 
-abbrev legBy : {A : Type 0} → Dec A → ℕ → ℕ → ℕ
+abbrev pub legBy : {A : Type 0} → Dec A → ℕ → ℕ → ℕ
 legBy (yes e) f rest = f
 legBy (no e) f rest = rest
 

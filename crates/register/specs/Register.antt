@@ -1,10 +1,11 @@
--- Document 01, 'Register of cases': P1 to P9 as one table with one statement, about the written rules themselves.
+-- Document 01, 'Register of cases': P1 to P12 as one table with one statement, about the written rules themselves.
 --
 --   register              the cases: what the rules give, and what the paper prints
 --   register-holds        each case comes out as printed
 --
 -- A machine's case shows the words given on each output, then that nothing is left on its inputs and that it is in its first phase with
--- empty registers. Letters are written A = 1 to H = 8, T = 1 and F = 0.
+-- empty registers. Letters are written A = 1 to H = 8, T = 1 and F = 0. A table's case shows the answer, the node and the firings of its
+-- run, then the words that its results hold.
 -- Assumes nothing.
 use Prim.Native.Nat.{ℕ, _+_, _*_}
 use mathlib.Core.Path.{_≡_, refl}
@@ -12,6 +13,11 @@ use mathlib.Core.List.{List, [], _∷_}
 use Rattle.word.specs.Words.{condition, update}
 use Rattle.step.specs.Kinds.{STREAM, GATE, CARRY, INVARIANT}
 use Rattle.step.specs.Machines.{step}
+use Rattle.graph.specs.SumGraph.{sumGraph}
+use Rattle.table.specs.Cases.{sumTable, sumBy, p12Table}
+use Rattle.lowered.specs.Lower.{loweredWords}
+use Rattle.lowered.specs.Cases.{sum-table-lowers-to-the-102-words}
+use Rattle.register.specs.Runs.{ran, p10, p11, zero-step, p12}
 use Rattle.register.specs.Drive.{drive, start, shown}
 
 -- what the rules give, and what is printed
@@ -29,6 +35,11 @@ most = 40
 
 abbrev streams : ℕ → ℕ → ℕ → ℕ → ℕ → List (List ℕ)
 streams s t b u c = shown (drive STREAM (5 * u + c) most (start (s ∷ []) (t ∷ []) (b ∷ [])))
+
+-- what the results hold, without the count of firings, which the paper does not print
+abbrev results : List (List ℕ) → List (List ℕ)
+results [] = []
+results (a ∷ rest) = rest
 
 abbrev T : ℕ
 T = 1
@@ -65,6 +76,16 @@ register =
       given = shown (drive INVARIANT 0 most (start (T ∷ T ∷ F ∷ T ∷ T ∷ T ∷ T ∷ F ∷ []) (1 ∷ 2 ∷ []) []));
       printed = rests (1 ∷ 1 ∷ 1 ∷ 2 ∷ 2 ∷ 2 ∷ 2 ∷ 2 ∷ []) [];
     }
+    -- Sum table. P10 input 5: 10, 58 firings
+    ∷ record { given = ran sumTable (5 ∷ []); printed = (0 ∷ 0 ∷ 58 ∷ []) ∷ (10 ∷ []) ∷ [] }
+    -- P11 input 0: 0, 13 firings
+    ∷ record { given = ran sumTable (0 ∷ []); printed = (0 ∷ 0 ∷ 13 ∷ []) ∷ (0 ∷ []) ∷ [] }
+    -- Its graph, 102 words
+    ∷ record { given = loweredWords sumTable ∷ []; printed = sumGraph ∷ [] }
+    -- With row 2 changed to CONST 0 and input 5: 6 firings, ZERO STEP, node 0
+    ∷ record { given = ran (sumBy 0) (5 ∷ []); printed = (1 ∷ 0 ∷ 6 ∷ []) ∷ [] ∷ [] }
+    -- P12: result 5
+    ∷ record { given = results (ran p12Table []); printed = (5 ∷ []) ∷ [] }
     ∷ []
 
 abbrev pub givens : List Case → List (List (List ℕ))
@@ -78,4 +99,4 @@ printeds (c ∷ cs) = c .printed ∷ printeds cs
 -- THE STATEMENT
 pub register-holds : givens register ≡ printeds register
 unfolding drive step condition update
-register-holds = refl
+register-holds = rw (p10, p11, sum-table-lowers-to-the-102-words, zero-step, p12)

@@ -1,0 +1,10 @@
+-- What is true of a lowered table: its nodes, wires and uses are listed once, every use has a made wire, and the graph is accepted.
+pub mod Lists
+pub mod Listed
+pub mod Reached
+pub mod Made
+pub mod Legs
+pub mod Indexed
+pub mod Words
+pub mod Taken
+pub mod Sorted

@@ -1,0 +1,1 @@
+// What lowering lays down is an accepted graph: theorems alone, in specs/.
