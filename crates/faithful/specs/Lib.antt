@@ -14,3 +14,4 @@ pub mod Carried
 pub mod Sound
 pub mod Conditions
 pub mod Following
+pub mod Sources
