@@ -15,3 +15,5 @@ pub mod Sound
 pub mod Conditions
 pub mod Following
 pub mod Sources
+pub mod Legs
+pub mod Places

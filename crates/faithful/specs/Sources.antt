@@ -3,6 +3,7 @@
 --   value-wire                the wire on which a value comes to a body
 --   source-is                 each use reads the wire that lowering says
 --   to-real, from-real        the table has the same nodes
+--   use-is-listed             a use that takes a wire is listed
 --   to-made, from-made        and the same wires
 --
 -- Assumes nothing.
@@ -30,6 +31,7 @@ use Rattle.lowered.specs.Lower
 use Rattle.laid.specs.Listed
 use Rattle.laid.specs.Made.{home-of-start, home-of-op, home-of-for, home-of-arg, home-of-next, node-feed, result-feed}
 use Rattle.uses.specs.Layout
+use Rattle.uses.specs.Machine.{Among}
 use Rattle.faithful.specs.Table.{Table, Slot, val, inner, absent, IsFor, wireBy, slot, slotWire, src, opSlot, streamSlot, guardSlot, gateSlot, copySplitSlot, copyInvariantSlot, carrySlot, argSplitSlot, resultSlot, isForRow, isIn, isArg, HasOut, plan}
 use Rattle.faithful.specs.Table
 use Rattle.faithful.specs.Words
@@ -344,6 +346,36 @@ module _ (t : List ℕ) (S : Structure t) where
   from-real (copyInvariant L v) rl = (Words.for-row t S L (carried-by t S L v (rl .there) .is-loop), rl .there)
   from-real (carry a) rl = arg-form a (rl .there)
   from-real (argSplit a) rl = arg-form a (rl .there)
+
+  -- a node that takes something is in the table
+  op-cases : (r : ℕ) → (eqb (kindOf t r) 2 || eqb (kindOf t r) 3) ≡ true → r < size t
+  op-cases r h = go (eqb (kindOf t r) 2) refl h
+    where
+      go : (b : Bool) → eqb (kindOf t r) 2 ≡ b → (b || eqb (kindOf t r) 3) ≡ true → r < size t
+      go true e k = Words.below-by-kind t S r 1 (eqb-true (kindOf t r) 2 e)
+      go false e k = Words.below-by-kind t S r 2 (eqb-true (kindOf t r) 3 k)
+
+  real-if-has : (n : Role) → Sources.has t n ≡ true → Listed.Real t n
+  real-if-has (opNode r) h = record { row = op-cases r h; value = op-cases r h; there = h }
+  real-if-has (stream L) h = let l = Words.below-by-kind t S L 3 (eqb-true (kindOf t L) 4 h) in record { row = l; value = l; there = h }
+  real-if-has (gate L) h = let l = Words.below-by-kind t S L 3 (eqb-true (kindOf t L) 4 h) in record { row = l; value = l; there = h }
+  real-if-has (guard L) h = let l = Words.below-by-kind t S L 3 (eqb-true (kindOf t L) 4 h) in record { row = l; value = l; there = h }
+  real-if-has (copySplit L v) h = copy-real (copySplit L v) L v h refl refl refl
+  real-if-has (copyInvariant L v) h = copy-real (copyInvariant L v) L v h refl refl refl
+  real-if-has (carry a) h = let l = Words.below-by-kind t S a 4 (eqb-true (kindOf t a) 5 h) in record { row = l; value = l; there = h }
+  real-if-has (argSplit a) h = let l = Words.below-by-kind t S a 4 (eqb-true (kindOf t a) 5 h) in record { row = l; value = l; there = h }
+
+  pub use-is-listed : (p : Use) (w : Wire) → source t p ≡ some w → Among p (Lower.uses t)
+  use-is-listed (into n k) w h = go (Sources.has t n) refl
+    where
+      go : (b : Bool) → Sources.has t n ≡ b → Among (into n k) (Lower.uses t)
+      go true e = Listed.node-use-is-listed t n k w (real-if-has n e) h
+      go false e = let q = none-there n k e in let z : _≡_ {A = ℕ} 0 1 = cc in absurd (omega arith)
+  use-is-listed (result q) w h = go (eqb (kindOf t q) 8) refl
+    where
+      go : (b : Bool) → eqb (kindOf t q) 8 ≡ b → Among (result q) (Lower.uses t)
+      go true e = Listed.result-use-is-listed t q w (Words.below-by-kind t S q 7 (eqb-true (kindOf t q) 8 e)) e h
+      go false e = let k = not-result q e in let z : _≡_ {A = ℕ} 0 1 = cc in absurd (omega arith)
 
   -- ---- wires
 

@@ -98,10 +98,10 @@ one-wires-legs-are-taken-once x s i (u ∷ v ∷ us) f o =
     let ih = one-wires-legs-are-taken-once x s (suc f) (v ∷ us) (suc (suc f)) (o .1) in
     let a : legOf u i (u ∷ v ∷ us) f ≡ f = first-leg u v us i f in
     let b : standing (λ p. legOf p i (u ∷ v ∷ us) f) (v ∷ us) ≡ standing (λ p. legOf p (suc f) (v ∷ us) (suc (suc f))) (v ∷ us)
-          = standing-same (λ p. legOf p i (u ∷ v ∷ us) f) (λ p. legOf p (suc f) (v ∷ us) (suc (suc f))) (v ∷ us)
-            (λ p m. later-leg p u v us i f (λ e. o .0 (subst (λ (z : Use). Among z (v ∷ us)) e m))) in
+    = standing-same (λ p. legOf p i (u ∷ v ∷ us) f) (λ p. legOf p (suc f) (v ∷ us) (suc (suc f))) (v ∷ us)
+    (λ p m. later-leg p u v us i f (λ e. o .0 (subst (λ (z : Use). Among z (v ∷ us)) e m))) in
     let c : times x (standing (λ p. legOf p i (u ∷ v ∷ us) f) (u ∷ v ∷ us)) ≡ flag (eqb x f) + times x (standing (λ p. legOf p (suc f) (v ∷ us) (suc (suc f))) (v ∷ us))
-          = ap₂ (λ (y : ℕ) (l : List ℕ). flag (eqb x y) + times x l) a b in
+    = ap₂ (λ (y : ℕ) (l : List ℕ). flag (eqb x y) + times x l) a b in
     omega arith
 
 -- a use stands on its wire, or on a new number
@@ -138,15 +138,15 @@ module _ (t : List ℕ) (x : ℕ) (on : Use → ℕ) where
       let m = forkWires (users t w) in
       let a = one-wires-legs-are-taken-once x (wireSort t w) i (users t w) f (users-once t w) in
       let b : standing on (users t w) ≡ standing (λ p. legOf p i (users t w) f) (users t w)
-            = standing-same on (λ p. legOf p i (users t w) f) (users t w) (λ p q. h 0 w refl p q ∙ ap (λ (z : ℕ). legOf p z (users t w) f) (let e : i + 0 ≡ i = omega arith in e)) in
+      = standing-same on (λ p. legOf p i (users t w) f) (users t w) (λ p q. h 0 w refl p q ∙ ap (λ (z : ℕ). legOf p z (users t w) f) (let e : i + 0 ≡ i = omega arith in e)) in
       let b′ : times x (standing on (users t w)) ≡ times x (standing (λ p. legOf p i (users t w) f) (users t w)) = ap (times x) b in
       let c = wires-taken ws (suc i) (f + m) (λ k v e p q. h (suc k) v e p q ∙ ap (λ (z : ℕ). legOf p z (users t v) (freeAt (usersEach t ws) (f + m) k)) (let e : i + suc k ≡ suc i + k = omega arith in e)) in
       let d : times x (taking (forkRows (wireSort t w) i (users t w) f ++ forksFrom t (suc i) ws (f + m)))
-            ≡ times x (taking (forkRows (wireSort t w) i (users t w) f)) + times x (taking (forksFrom t (suc i) ws (f + m)))
-            = ap (times x) (taking-append (forkRows (wireSort t w) i (users t w) f) (forksFrom t (suc i) ws (f + m)))
-              ∙ times-append x (taking (forkRows (wireSort t w) i (users t w) f)) (taking (forksFrom t (suc i) ws (f + m))) in
+      ≡ times x (taking (forkRows (wireSort t w) i (users t w) f)) + times x (taking (forksFrom t (suc i) ws (f + m)))
+      = ap (times x) (taking-append (forkRows (wireSort t w) i (users t w) f) (forksFrom t (suc i) ws (f + m)))
+      ∙ times-append x (taking (forkRows (wireSort t w) i (users t w) f)) (taking (forksFrom t (suc i) ws (f + m))) in
       let e : times x (numbers f (m + allForkWires (usersEach t ws))) ≡ times x (numbers f m) + times x (numbers (f + m) (allForkWires (usersEach t ws)))
-            = ap (times x) (numbers-join f m (allForkWires (usersEach t ws))) ∙ times-append x (numbers f m) (numbers (f + m) (allForkWires (usersEach t ws))) in
+      = ap (times x) (numbers-join f m (allForkWires (usersEach t ws))) ∙ times-append x (numbers f m) (numbers (f + m) (allForkWires (usersEach t ws))) in
       omega arith
 
   -- ---- each use belongs to one wire
@@ -225,12 +225,12 @@ module _ (t : List ℕ) (made : (u : Use) → Among u (uses t) → (v : Wire) ×
   unfolding allUsers plainWires
   each-wire-is-taken-once x h =
       let a = wires-taken t x (standsOn t) (wires t) 0 (length (wires t))
-              (λ k w e p m. stands-by-wire k w e p (users-are t w p m .0) ∙ ap (λ (z : ℕ). legOf p z (users t w) (freeAt (usersEach t (wires t)) (length (wires t)) k)) (let d : k ≡ 0 + k = omega arith in d)) in
+      (λ k w e p m. stands-by-wire k w e p (users-are t w p m .0) ∙ ap (λ (z : ℕ). legOf p z (users t w) (freeAt (usersEach t (wires t)) (length (wires t)) k)) (let d : k ≡ 0 + k = omega arith in d)) in
       let b = stood-read t x (standsOn t) (wires t) in
       let c = read-all t x (standsOn t) (wires t) (wires-once t) (uses t) made in
       let d : times x (numbers 0 (length (wires t) + allForkWires (usersEach t (wires t)))) ≡ times x (numbers 0 (length (wires t))) + times x (numbers (0 + length (wires t)) (allForkWires (usersEach t (wires t))))
-            = ap (times x) (numbers-join 0 (length (wires t)) (allForkWires (usersEach t (wires t)))) ∙ times-append x (numbers 0 (length (wires t))) (numbers (0 + length (wires t)) (allForkWires (usersEach t (wires t)))) in
+      = ap (times x) (numbers-join 0 (length (wires t)) (allForkWires (usersEach t (wires t)))) ∙ times-append x (numbers 0 (length (wires t))) (numbers (0 + length (wires t)) (allForkWires (usersEach t (wires t)))) in
       let e = once-in-numbers x 0 (length (wires t) + allForkWires (usersEach t (wires t))) (omega arith) (omega arith) in
       let f : times x (numbers (0 + length (wires t)) (allForkWires (usersEach t (wires t)))) ≡ times x (numbers (length (wires t)) (allForkWires (usersEach t (wires t))))
-            = ap (λ (z : ℕ). times x (numbers z (allForkWires (usersEach t (wires t))))) (let q : 0 + length (wires t) ≡ length (wires t) = omega arith in q) in
+      = ap (λ (z : ℕ). times x (numbers z (allForkWires (usersEach t (wires t))))) (let q : 0 + length (wires t) ≡ length (wires t) = omega arith in q) in
       omega arith

@@ -341,9 +341,9 @@ module _ (t : List ℕ) where
       elim (among-split u (useIf t (into n in0)) (useIf t (into n in1) ++ useIf t (into n in2)) h) [
         | inl a ↦ (let g = read-by (into n in0) u a in (in0, g .0, g .1))
         | inr a ↦ elim (among-split u (useIf t (into n in1)) (useIf t (into n in2)) a) [
-            | inl b ↦ (let g = read-by (into n in1) u b in (in1, g .0, g .1))
-            | inr b ↦ (let g = read-by (into n in2) u b in (in2, g .0, g .1))
-          ]
+          | inl b ↦ (let g = read-by (into n in1) u b in (in1, g .0, g .1))
+          | inr b ↦ (let g = read-by (into n in2) u b in (in2, g .0, g .1))
+        ]
       ]
 
   role-uses-has : (n : Role) (k : Input) (w : Wire) → source t (into n k) ≡ some w → Among (into n k) (roleUses t n)

@@ -204,8 +204,10 @@ module _ (t : List ℕ) (S : Structure t) where
 
       around : H ≢ bodyOf t L → bodyOf t L ≢ size t → holds (bodyOf t L) (stackAt t H) ≡ false → Reached v (bodyOf t L)
       around n m h =
-          inr (carried-is t (bodyOf t L) v (C .row) (C .place) n h (C .row-below) (C .place-below) (C .is) (further-out L (reads t (C .row)) less k m (C .deep)),
-          S .body-loop L (omega arith) m .is-for)
+          inr (
+            carried-is t (bodyOf t L) v (C .row) (C .place) n h (C .row-below) (C .place-below) (C .is) (further-out L (reads t (C .row)) less k m (C .deep)),
+            S .body-loop L (omega arith) m .is-for,
+          )
 
       -- H is a loop around L
       by-loop : H ≢ bodyOf t L → kindOf t H ≡ 4 → H < L → L ≤ endOf t H → Reached v (bodyOf t L)

@@ -94,11 +94,11 @@ module _ (t : List ℕ) where
   sorts-are =
       ap₂ {C = List ℕ} (λ s n. replicate s 0 ++ joined (λ i. outputSorts (nodeAt (loweredWords t) i)) n) (start-count t) (node-count t)
       ∙ ap₂ {C = List ℕ} (λ a b. a ++ b) (sym (starts-sorted (startRows t)))
-        (joined-same (λ i. outputSorts (nodeAt (loweredWords t) i)) (λ i. outputSorts (getElem? (loweredNodes t) i)) (nodeTotal t) (λ i l. ap outputSorts (node-in-list t i l))
-        ∙ ap (joined (λ i. outputSorts (getElem? (loweredNodes t) i))) (sym (nodes-are-counted t))
-        ∙ joined-along outputSorts (loweredNodes t)
-        ∙ each-append sorting (nodesFrom t (length (starts t)) (roles t)) (forksFrom t 0 (wires t) (plainWires t))
-        ∙ ap₂ {C = List ℕ} (λ a b. a ++ b) (roles-sorted (length (starts t)) (roles t)) (forks-sorted 0 (wires t) (plainWires t)))
+      (joined-same (λ i. outputSorts (nodeAt (loweredWords t) i)) (λ i. outputSorts (getElem? (loweredNodes t) i)) (nodeTotal t) (λ i l. ap outputSorts (node-in-list t i l))
+      ∙ ap (joined (λ i. outputSorts (getElem? (loweredNodes t) i))) (sym (nodes-are-counted t))
+      ∙ joined-along outputSorts (loweredNodes t)
+      ∙ each-append sorting (nodesFrom t (length (starts t)) (roles t)) (forksFrom t 0 (wires t) (plainWires t))
+      ∙ ap₂ {C = List ℕ} (λ a b. a ++ b) (roles-sorted (length (starts t)) (roles t)) (forks-sorted 0 (wires t) (plainWires t)))
       ∙ sym (append-assoc (sorts (starts t)) (sorts (each (roleOutputs t) (roles t))) (each newSorts (wires t)))
       ∙ ap (λ (l : List ℕ). l ++ each newSorts (wires t)) (sym (sorts-append (starts t) (each (roleOutputs t) (roles t))))
 

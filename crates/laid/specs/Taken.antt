@@ -170,11 +170,11 @@ module _ (t : List ℕ) (S : Structure t) where
       let F = taking (forksFrom t 0 (wires t) (plainWires t)) in
       let B = standing (standsOn t) (each (λ q. useIf t (result q)) (outRows t)) in
       let counts : reads (loweredWords t) ≡ (A ++ F) ++ B
-            = ap₂ {C = List ℕ} (λ n r. joined (λ i. nodeReads (nodeAt (loweredWords t) i)) n ++ results (loweredWords t) r) (node-count t) (result-count t)
-              ∙ ap₂ {C = List ℕ} (λ a b. a ++ b) node-part result-part in
+      = ap₂ {C = List ℕ} (λ n r. joined (λ i. nodeReads (nodeAt (loweredWords t) i)) n ++ results (loweredWords t) r) (node-count t) (result-count t)
+      ∙ ap₂ {C = List ℕ} (λ a b. a ++ b) node-part result-part in
       let a : times x (reads (loweredWords t)) ≡ times x A + times x F + times x B
-            = ap (times x) counts ∙ times-append x (A ++ F) B ∙ ap (λ (n : ℕ). n + times x B) (times-append x A F) in
+      = ap (times x) counts ∙ times-append x (A ++ F) B ∙ ap (λ (n : ℕ). n + times x B) (times-append x A F) in
       let b : times x (standing (standsOn t) (uses t)) ≡ times x A + times x B
-            = ap (times x) (standing-append (standsOn t) (each (roleUses t) (roles t)) (each (λ q. useIf t (result q)) (outRows t))) ∙ times-append x A B in
+      = ap (times x) (standing-append (standsOn t) (each (roleUses t) (roles t)) (each (λ q. useIf t (result q)) (outRows t))) ∙ times-append x A B in
       let c = each-wire-is-taken-once t made x h in
       omega arith
