@@ -28,7 +28,8 @@ use Rattle.lowered.specs.Roles.{Wire, Use, sameWire, sameUse}
 use Rattle.lowered.specs.Sources.{source}
 use Rattle.lowered.specs.Lower.{wires, wireNumber, wireSort, uses, keepIf, readerOf, readersIn, users, forkRows, forkWires, legBy, legOf, freeAt, allForkWires, usersEach, plainWires, allUsers, standsBy, standsOn, forksFrom}
 use Rattle.laid.specs.Lists.{Among, Once, there, none-some, position-is}
-use Rattle.laid.specs.Listed.{wires-once, users-are, users-once, made-wire-is-listed}
+use Rattle.laid.specs.Listed.{wires-once, made-wire-is-listed}
+use Rattle.laid.specs.Uses.{users-are, users-once}
 
 -- ---- numbers in a row
 abbrev pub numbers : ℕ → ℕ → List ℕ

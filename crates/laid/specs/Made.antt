@@ -27,7 +27,8 @@ use Rattle.lowered.specs.Roles.{Role, opNode, stream, gate, guard, copySplit, c
 use Rattle.lowered.specs.Sources.{carried, homeWire, valueWire, Feed, value, inner, nothing, named, isOp, isFor, isArgRow, has, roleFeed, feed, wireOf, source}
 use Rattle.lowered.specs.Lower.{roleKind, roleSort, isStart, wireSort, isOut, uses}
 use Rattle.laid.specs.Lists.{Among}
-use Rattle.laid.specs.Listed.{and-true, and-both, roleRow, roleValue, Real, Made, listed-use-is, Read}
+use Rattle.laid.specs.Listed.{and-true, and-both, roleRow, roleValue, Real, Made}
+use Rattle.laid.specs.Uses.{listed-use-is, Read}
 use Rattle.laid.specs.Reached.{in-table, carried-by, Reached, operand-is-reached, copy-is-reached}
 
 -- an operator's sort is that of its value

@@ -22,7 +22,7 @@ use Rattle.lowered.specs.Sources.{source}
 use Rattle.lowered.specs.Lower.{roles, roleKind, roleCode, roleSort, startRows, starts, outputsBy, roleOutputs, wires, wireNumber, wireSort, uses, users, forkRows, forkWires, freeAt, usersEach, plainWires, allUsers, standsOn, nodesFrom, forksFrom, loweredNodes, nodeTotal, startTotal, loweredWords}
 use Rattle.laid.specs.Lists.{Among, in-range, none-some}
 use Rattle.laid.specs.Indexed.{joined-same, joined-along, each-append}
-use Rattle.laid.specs.Listed.{users-has}
+use Rattle.laid.specs.Uses.{users-has}
 use Rattle.laid.specs.Legs.{leg-is-new, stands-by-wire}
 use Rattle.laid.specs.Taken.{made, number-at, free-low}
 use Rattle.laid.specs.Words.{node-in-list, nodes-are-counted, node-count, start-count}
@@ -125,7 +125,7 @@ module _ (t : List ℕ) where
       ∙ getD-append-add (newSorts v) (each newSorts ws) (n .0) 0
       ∙ new-sort ws k (f + forkWires (users t v)) j (n .0) w h b (omega (arith, n .1))
 
-  wire-sorted : (k : ℕ) (w : Wire) → getElem? (wires t) k ≡ some w → sortAt (loweredWords t) k ≡ wireSort t w
+  pub wire-sorted : (k : ℕ) (w : Wire) → getElem? (wires t) k ≡ some w → sortAt (loweredWords t) k ≡ wireSort t w
   wire-sorted k w h =
       let b = in-range (wires t) k w h in
       let s = sorts-long (wires t) in
@@ -133,7 +133,7 @@ module _ (t : List ℕ) where
       ∙ List·getD-append (sorts (wires t)) (each newSorts (wires t)) 0 k (omega arith)
       ∙ sort-at (wires t) k w h
 
-  new-wire-sorted : (k j x : ℕ) (w : Wire) → getElem? (wires t) k ≡ some w → j < forkWires (users t w) → x ≡ freeAt (allUsers t) (plainWires t) k + j → sortAt (loweredWords t) x ≡ wireSort t w
+  pub new-wire-sorted : (k j x : ℕ) (w : Wire) → getElem? (wires t) k ≡ some w → j < forkWires (users t w) → x ≡ freeAt (allUsers t) (plainWires t) k + j → sortAt (loweredWords t) x ≡ wireSort t w
   unfolding allUsers plainWires
   new-wire-sorted k j x w h b e =
       let low = free-low (usersEach t (wires t)) (length (wires t)) k in

@@ -24,7 +24,8 @@ use Rattle.lowered.specs.Sources.{Feed, value, inner, nothing, has, roleFeed, n
 use Rattle.lowered.specs.Lower.{roles, roleKind, wires, wireNumber, wireSort, taken, useIf, roleUses, isOut, outRows, uses, users, forkRows, forkWires, legOf, freeAt, allForkWires, usersEach, plainWires, allUsers, starts, standsOn, roleNode, nodesFrom, forksFrom, loweredNodes, nodeTotal, wireTotal, resultTotal, loweredWords}
 use Rattle.laid.specs.Lists.{Among, those-from, at-position, there, in-range, has-elem, none-some}
 use Rattle.laid.specs.Indexed.{joined-same, joined-along, each-append}
-use Rattle.laid.specs.Listed.{Real, Made, listed-role-is-real, made-wire-is-listed, listed-use-reads, users-has, wires-once}
+use Rattle.laid.specs.Listed.{Real, Made, listed-role-is-real, made-wire-is-listed, wires-once}
+use Rattle.laid.specs.Uses.{listed-use-reads, users-has}
 use Rattle.laid.specs.Made.{isFed, takes-where-it-has-a-place, node-feed, result-feed, source-is-made}
 use Rattle.laid.specs.Legs.{standing, taking, taking-append, leg-is-new, stands-by-wire, each-wire-is-taken-once}
 use Rattle.laid.specs.Words.{node-in-list, nodes-are-counted, node-count, result-count, result-at}
@@ -39,7 +40,7 @@ free-low [] f i = omega arith
 free-low (us ∷ uss) f zero = omega arith
 free-low (us ∷ uss) f (suc i) = let r = free-low uss (f + forkWires us) i in omega arith
 
-free-high : (t : List ℕ) (ws : List Wire) (f i : ℕ) (w : Wire) → getElem? ws i ≡ some w → freeAt (usersEach t ws) f i + forkWires (users t w) ≤ f + allForkWires (usersEach t ws)
+pub free-high : (t : List ℕ) (ws : List Wire) (f i : ℕ) (w : Wire) → getElem? ws i ≡ some w → freeAt (usersEach t ws) f i + forkWires (users t w) ≤ f + allForkWires (usersEach t ws)
 free-high t [] f i w h = none-some w h
 free-high t (v ∷ ws) f zero w h = let e : v ≡ w = cc in let d : forkWires (users t v) ≡ forkWires (users t w) = ap (λ (z : Wire). forkWires (users t z)) e in omega arith
 free-high t (v ∷ ws) f (suc i) w h = let r = free-high t ws (f + forkWires (users t v)) i w h in omega arith
@@ -143,7 +144,7 @@ module _ (t : List ℕ) (S : Structure t) where
       ∙ each-append reading (nodesFrom t (length (starts t)) (roles t)) (forksFrom t 0 (wires t) (plainWires t))
       ∙ ap₂ {C = List ℕ} (λ a b. a ++ b) (roles-take (length (starts t)) (roles t) (listed-role-is-real t)) (forks-take 0 (wires t) (plainWires t))
 
-  out-row : (q : ℕ) → Among q (outRows t) → (q < size t) × (isOut t q ≡ true)
+  pub out-row : (q : ℕ) → Among q (outRows t) → (q < size t) × (isOut t q ≡ true)
   unfolding outRows
   out-row q h = those-from (isOut t) (size t) q h
 

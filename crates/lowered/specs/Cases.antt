@@ -3,24 +3,27 @@
 --   sum-table-lowers-to-the-102-words     as document 01 prints them
 --   p12-lowers                            loops in loops, values carried in
 --   input-out-has-no-nodes, unused-values-are-drained, eight-loops-lower, a-carried-flag-keeps-its-sort
+--   one-word-short, refusal-writes-nothing, two-words-left, length-is-answered      the answers, and the lent words
 --   lowering-computes                     opens every definition that a lowering computes with
 --
 -- Assumes nothing.
 use Prim.Native.Nat.{ℕ}
 use mathlib.Core.Path.{_≡_, refl}
-use mathlib.Core.List.{List, [], _∷_}
+use mathlib.Core.List.{List, [], _∷_, _++_}
 use native.Mathlib.Decide.{ℕ-discrete}
 use Rattle.graph.specs.Graph.{absent}
 use Rattle.graph.specs.SumGraph.{sumGraph}
-use Rattle.table.specs.Rows.{operandCount, firstOperand, sortOf}
-use Rattle.table.specs.Scan.{after, stackAt, bodyOf, readStack, reads, homeBy, home}
+use Rattle.table.specs.Rows.{usedWords, operandCount, firstOperand, sortOf, wantedSort}
+use Rattle.table.specs.Scan.{after, stackAt, bodyOf, readStack, reads, homeBy, home, bodyOpen, endPassed, visible}
+use Rattle.table.specs.Check.{lengthRight, kindRight, zerosFrom, spareRight, codeRight, follows, stands, placeRight, depthRight, namesFrom, namesRight, typesFrom, typesRight, endRight, rowRefusal, answer, rowsFrom, tableRefusal}
 use Rattle.table.specs.Bodies.{ends, endFrom, endOf, argsFrom, argsOf, argOf, nextOf}
-use lib.ListN.{take, set}
+use lib.ListN.{take, set, replicate}
 use Rattle.table.specs.Cases.{input, const, op, pick, loop, arg, next, close, out, nested, sumTable, sumBy, p12Table}
 use Rattle.lowered.specs.Gathered.{gathered, those, some?, each, position}
 use Rattle.lowered.specs.Roles.{sameRole, sameOutput, sameInput, sameWire, sameUse}
 use Rattle.lowered.specs.Sources.{inside, names, carried, homeWire, valueWire, feed, source}
 use Rattle.lowered.specs.Lower.{carriedInto, rowRoles, roles, startRows, starts, wires, wireNumber, outRows, uses, readersIn, users, legOf, plainNodes, plainWires, allUsers, standsOn, loweredNodes, nodeTotal, wireTotal, startTotal, resultTotal, loweredWords}
+use Rattle.lowered.specs.Room.{ROOM, hasRoom, fitsInto, refusedBy, checkAnswer, lowerRefusal, Lowered, lowerAnswer, lentAfter}
 
 -- everything that lowering computes with
 unfoldable pub lowering-computes : ℕ
@@ -136,3 +139,30 @@ a-carried-flag-keeps-its-sort = refl
 pub changed-row-changes-its-start : loweredWords (sumBy 0) ≡ set sumGraph 9 0
 unfolding lowering-computes sumGraph
 changed-row-changes-its-start = refl
+
+-- everything that the answers compute with, besides
+checking-computes : ℕ
+unfolding usedWords wantedSort bodyOpen endPassed visible lengthRight kindRight zerosFrom spareRight codeRight follows stands placeRight depthRight namesFrom namesRight typesFrom typesRight endRight rowRefusal rowsFrom tableRefusal hasRoom fitsInto refusedBy checkAnswer lowerRefusal lowerAnswer lentAfter
+checking-computes = 0
+
+pub sum-table-has-room : checkAnswer sumTable ≡ answer 0 0
+unfolding lowering-computes checking-computes
+sum-table-has-room = refl
+
+-- 'or the lent words': 101 are too few, 'row count' 9, 'all lent memory is unchanged'
+pub one-word-short : lowerAnswer sumTable 101 ≡ record { number = ROOM; row = 9; length = 0 }
+unfolding lowering-computes checking-computes
+one-word-short = refl
+
+pub refusal-writes-nothing : lentAfter sumTable (replicate 101 7) ≡ replicate 101 7
+unfolding lowering-computes checking-computes
+refusal-writes-nothing = refl
+
+-- 'Lowering writes the graph first, leaves the rest of the lent words, and answers the length.'
+pub two-words-left : lentAfter sumTable (replicate 104 7) ≡ sumGraph ++ (7 ∷ 7 ∷ [])
+unfolding lowering-computes checking-computes sumGraph
+two-words-left = refl
+
+pub length-is-answered : lowerAnswer sumTable 104 ≡ record { number = 0; row = 0; length = 102 }
+unfolding lowering-computes checking-computes
+length-is-answered = refl

@@ -3,4 +3,5 @@ pub mod Gathered
 pub mod Roles
 pub mod Sources
 pub mod Lower
+pub mod Room
 pub mod Cases

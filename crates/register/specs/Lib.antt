@@ -1,3 +1,4 @@
 pub mod Drive
 pub mod Runs
 pub mod Register
+pub mod Slips

@@ -47,7 +47,7 @@ unfoldable pub ran : List ℕ → List ℕ → List (List ℕ)
 ran t inputs = ranGraph (loweredWords t) inputs
 
 -- everything that a run computes with
-running-computes : ℕ
+unfoldable pub running-computes : ℕ
 unfolding ranGraph loaded startWord total joined everyFrom nodeAt rowAt kindOf step condition update operate fire turn follow sweepFrom sweeps finish run anyReady complete resultsFull othersEmpty phasesZero zeroStepAt firstFrom outcome times sumGraph p12Graph
 running-computes = 0
 
