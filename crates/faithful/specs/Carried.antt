@@ -29,7 +29,7 @@ use Rattle.lowered.specs.Sources
 use Rattle.lowered.specs.Sources.{isFor, carried, names}
 use Rattle.faithful.specs.Table.{Table, Slot, val, inner, absent, named, IsFor, bornBy, sinceBy, born, since, slot, opSlot, streamSlot, guardSlot, gateSlot, copySplitSlot, copyInvariantSlot, carrySlot, argSplitSlot, resultSlot, isOp, isStart, isIn, isArg, isForRow}
 use Rattle.faithful.specs.Good.{Inner, Used, Good}
-use Rattle.faithful.specs.Words
+use Rattle.faithful.specs.Tables
 
 -- ---- tests
 
@@ -85,7 +85,7 @@ found-some test (suc n) i l h =
 
 module _ (t : List ℕ) (S : Structure t) where
   abbrev tb : Table
-  tb = Words.tableOf t
+  tb = Tables.tableOf t
 
   -- ---- bodies
 
@@ -93,18 +93,18 @@ module _ (t : List ℕ) (S : Structure t) where
   body-cases r l =
       elim (ℕ-discrete (bodyOf t r) (size t)) [
         | yes e ↦ inl e
-        | no n ↦ let i = S .body-loop r l n in inr (Words.below-by-kind t S (bodyOf t r) 3 (i .is-for), i .is-for)
+        | no n ↦ let i = S .body-loop r l n in inr (Tables.below-by-kind t S (bodyOf t r) 3 (i .is-for), i .is-for)
       ]
 
   pub body-for : (r : ℕ) → r ≤ size t → (bodyOf t r ≡ size t) ⊎ IsFor tb (bodyOf t r)
-  body-for r l = elim (body-cases r l) [ inl e ↦ inl e | inr k ↦ inr (Words.for-row t S (bodyOf t r) (k .1)) ]
+  body-for r l = elim (body-cases r l) [ inl e ↦ inl e | inr k ↦ inr (Tables.for-row t S (bodyOf t r) (k .1)) ]
 
   -- first and last rows of loops
   pub first-is : (L : ℕ) → kindOf t L ≡ 4 → tb .first L ≡ firstOf t L
-  first-is L k = Words.first-of t L (let l = Words.below-by-kind t S L 3 k in omega arith)
+  first-is L k = Tables.first-of t L (let l = Tables.below-by-kind t S L 3 k in omega arith)
 
   pub last-is : (L : ℕ) → kindOf t L ≡ 4 → tb .last L ≡ endOf t L
-  last-is L k = Words.last-of t L (let l = Words.below-by-kind t S L 3 k in omega arith)
+  last-is L k = Tables.last-of t L (let l = Tables.below-by-kind t S L 3 k in omega arith)
 
   -- what is enclosed starts later and ends earlier
   enclosed : (M B : ℕ) → M < size t → kindOf t M ≡ 4 → (B ≡ size t) ⊎ ((B < size t) × (kindOf t B ≡ 4)) → Encloses t M B → (tb .first M ≤ tb .first B) × (tb .last B ≤ tb .last M)
@@ -123,16 +123,16 @@ module _ (t : List ℕ) (S : Structure t) where
   inner-at r l n = record { low = low′ (body-cases r (omega arith)); high = high′ (body-cases r (omega arith)); within = within′ }
     where
       low′ : (bodyOf t r ≡ size t) ⊎ ((bodyOf t r < size t) × (kindOf t (bodyOf t r) ≡ 4)) → tb .first (bodyOf t r) ≤ r
-      low′ (inl e) = let q : tb .first (bodyOf t r) ≡ 0 = ap (tb .first) e ∙ Words.outer-first t in omega arith
+      low′ (inl e) = let q : tb .first (bodyOf t r) ≡ 0 = ap (tb .first) e ∙ Tables.outer-first t in omega arith
       low′ (inr c) = let q = first-is (bodyOf t r) (c .1) in let c0 : bodyOf t r < size t = c .0 in let k = S .body-first r l n (omega arith) in omega arith
 
       high′ : (bodyOf t r ≡ size t) ⊎ ((bodyOf t r < size t) × (kindOf t (bodyOf t r) ≡ 4)) → r ≤ tb .last (bodyOf t r)
-      high′ (inl e) = let q : tb .last (bodyOf t r) ≡ suc (size t) = ap (tb .last) e ∙ Words.outer-last t in omega arith
+      high′ (inl e) = let q : tb .last (bodyOf t r) ≡ suc (size t) = ap (tb .last) e ∙ Tables.outer-last t in omega arith
       high′ (inr c) = let q = last-is (bodyOf t r) (c .1) in let c0 : bodyOf t r < size t = c .0 in let k = S .body-loop r (omega arith) (omega arith) .high in omega arith
 
       within′ : (M : ℕ) → IsFor tb M → M < r → r ≤ tb .last M → (tb .first M ≤ tb .first (bodyOf t r)) × (tb .last (bodyOf t r) ≤ tb .last M)
       within′ M f lo hi =
-          let k = Words.for-kind t S M f in
+          let k = Tables.for-kind t S M f in
           let q = last-is M (k .1) in
           enclosed M (bodyOf t r) (k .0) (k .1) (body-cases r (omega arith))
           (S .body-inmost r M (omega arith) (k .0) (record { is-for = k .1; low = lo; high = (let h : r ≤ endOf t M = omega arith in h) }))
@@ -179,7 +179,7 @@ module _ (t : List ℕ) (S : Structure t) where
         | yes a ↦
             let A = S .arg-row r lr a in
             let M = bodyOf t r in
-            let lM = Words.below-by-kind t S M 3 (A .loop-for) in
+            let lM = Tables.below-by-kind t S M 3 (A .loop-for) in
             let x = of-body M (subst (λ (z : ℕ). Sources.inside t L z ≡ true) (S .arg-reads r lr a) h) (omega arith) in
             let x0 : L < M = x .0 in
             let x1 : M ≤ endOf t L = x .1 in
@@ -202,7 +202,7 @@ module _ (t : List ℕ) (S : Structure t) where
                 let s = S .loop-span L l k .inside in
                 let i = S .body-loop r lr (λ z. omega arith) in
                 let lo = i .low in let hi = i .high in
-                let lB = Words.below-by-kind t S (bodyOf t r) 3 (i .is-for) in
+                let lB = Tables.below-by-kind t S (bodyOf t r) 3 (i .is-for) in
                 let n = S .nest L (bodyOf t r) lB k (i .is-for) c0 c1 .1 in
                 (omega arith, omega arith)
           ]
@@ -235,7 +235,7 @@ module _ (t : List ℕ) (S : Structure t) where
   carried-by L v h =
       let a = both (isFor t L) (carried t L v) h in
       let k : kindOf t L ≡ 4 = eqb-true (kindOf t L) 4 (a .0) in
-      let l = Words.below-by-kind t S L 3 k in
+      let l = Tables.below-by-kind t S L 3 k in
       let b = both (not (Sources.inside t L (home t v))) (some? (λ r. Sources.inside t L (reads t r) && names t r v) (size t)) (a .1) in
       let f = some-found (λ r. Sources.inside t L (reads t r) && names t r v) (size t) (b .1) in
       let c = both (Sources.inside t L (reads t (f .0))) (names t (f .0) v) (f .2) in
@@ -300,7 +300,7 @@ module _ (t : List ℕ) (S : Structure t) where
                   let m0 : L < bodyOf t v = m .0 in
                   let m1 : bodyOf t v ≤ endOf t L = m .1 in
                   let N = S .next-row v lv k in
-                  let lM = Words.below-by-kind t S (bodyOf t v) 3 (N .loop-for) in
+                  let lM = Tables.below-by-kind t S (bodyOf t v) 3 (N .loop-for) in
                   at-home (subst (λ (z : ℕ). Sources.inside t L z ≡ true) (sym (S .next-home v lv k)) (body-inside L (bodyOf t v) (c .below) (c .is-loop) (omega arith) m0 m1))
             ]
 
@@ -347,7 +347,7 @@ module _ (t : List ℕ) (S : Structure t) where
         go (outermost e) = outermost e
         go (same e) = absurd (clash (subst (λ (z : ℕ). Sources.inside t L z ≡ true) (sym e) (c .read-inside)) (c .outside))
         go (inside k lo hi) =
-            let lH = Words.below-by-kind t S (home t v) 3 k in
+            let lH = Tables.below-by-kind t S (home t v) 3 k in
             let lL = c .below in
             let around : (home t v < L) × (L ≤ endOf t (home t v)) =
             elim (inside-means L (reads t (c .row)) (c .below) (c .is-loop) (c .read-inside)) [
@@ -388,7 +388,7 @@ module _ (t : List ℕ) (S : Structure t) where
 
         go : Encloses t (home t v) (bodyOf t L) → (bodyOf t L ≡ size t) ⊎ ((bodyOf t L < size t) × (kindOf t (bodyOf t L) ≡ 4)) → tb .carried (bodyOf t L) v ≡ true
         go (same e) k = absurd (n e)
-        go (inside kH lo hi) (inl e) = let lH = Words.below-by-kind t S (home t v) 3 kH in let s = S .loop-span (home t v) lH kH .inside in absurd (omega arith)
+        go (inside kH lo hi) (inl e) = let lH = Tables.below-by-kind t S (home t v) 3 kH in let s = S .loop-span (home t v) lH kH .inside in absurd (omega arith)
         go (inside kH lo hi) (inr k) = make (k .1) (k .0) (inl lo)
         go (outermost e) (inl k) = absurd (n (e ∙ sym k))
         go (outermost e) (inr k) = make (k .1) (k .0) (inr e)

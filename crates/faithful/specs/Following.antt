@@ -37,7 +37,7 @@ use Rattle.faithful.specs.Stages.{sayIf}
 use Rattle.faithful.specs.Turn.{isNxt, argsTo, nextsTo, turnEnv, inside-open, inside-none, inside-again, inside-leave}
 use Rattle.faithful.specs.For.{step-open, step-none}
 use Rattle.faithful.specs.End.{step-again, step-leave}
-use Rattle.faithful.specs.Words
+use Rattle.faithful.specs.Tables
 use Rattle.faithful.specs.Carried.{first-is, last-is}
 use Rattle.faithful.specs.Sound.{passing-is-good}
 use Rattle.faithful.specs.Conditions.{Told, turns-other, one-turn-other, told-same, told-opens, told-skips, told-again, told-leaves}
@@ -59,7 +59,7 @@ set-as-cond false x y = refl
 
 module _ (t : List ℕ) (S : Structure t) where
   abbrev tb : Table
-  tb = Words.tableOf t
+  tb = Tables.tableOf t
 
   abbrev g : Good tb
   g = passing-is-good t S
@@ -67,9 +67,9 @@ module _ (t : List ℕ) (S : Structure t) where
   -- ---- the words of the rows, set as the reading sets them
 
   kind-arg : (v : ℕ) → eqb (kindOf t v) 5 ≡ isArg (tb .row v)
-  kind-arg v = elim (decLt v (size t)) [ yes l ↦ go (tb .row v) (Words.row-kind t S v l) | no n ↦ rw (Words.kind-past t S v (omega arith), Words.row-past t v (omega arith)) ]
+  kind-arg v = elim (decLt v (size t)) [ yes l ↦ go (tb .row v) (Tables.row-kind t S v l) | no n ↦ rw (Tables.kind-past t S v (omega arith), Tables.row-past t v (omega arith)) ]
     where
-      go : (d : Row) → Words.rowKind d ≡ kindOf t v → eqb (kindOf t v) 5 ≡ isArg d
+      go : (d : Row) → Tables.rowKind d ≡ kindOf t v → eqb (kindOf t v) 5 ≡ isArg d
       go input e = rw (sym e)
       go (const w) e = rw (sym e)
       go (op c x y) e = rw (sym e)
@@ -82,9 +82,9 @@ module _ (t : List ℕ) (S : Structure t) where
       go unknown e = rw (sym e)
 
   kind-next : (v : ℕ) → eqb (kindOf t v) 6 ≡ isNxt (tb .row v)
-  kind-next v = elim (decLt v (size t)) [ yes l ↦ go (tb .row v) (Words.row-kind t S v l) | no n ↦ rw (Words.kind-past t S v (omega arith), Words.row-past t v (omega arith)) ]
+  kind-next v = elim (decLt v (size t)) [ yes l ↦ go (tb .row v) (Tables.row-kind t S v l) | no n ↦ rw (Tables.kind-past t S v (omega arith), Tables.row-past t v (omega arith)) ]
     where
-      go : (d : Row) → Words.rowKind d ≡ kindOf t v → eqb (kindOf t v) 6 ≡ isNxt d
+      go : (d : Row) → Tables.rowKind d ≡ kindOf t v → eqb (kindOf t v) 6 ≡ isNxt d
       go input e = rw (sym e)
       go (const w) e = rw (sym e)
       go (op c x y) e = rw (sym e)
@@ -129,16 +129,16 @@ module _ (t : List ℕ) (S : Structure t) where
 
   -- what an ARG's row names, and a NEXT's
   arg-named : (a : ℕ) → kindOf t a ≡ 5 → word t a 1 ≡ Table.named (tb .row a)
-  arg-named a k = sym (ap Table.named (Words.row-at t a (Words.below-by-kind t S a 4 k) ∙ Words.is-arg t a k))
+  arg-named a k = sym (ap Table.named (Tables.row-at t a (Tables.below-by-kind t S a 4 k) ∙ Tables.is-arg t a k))
 
   next-named : (x : ℕ) → kindOf t x ≡ 6 → word t x 1 ≡ Table.named (tb .row x)
-  next-named x k = sym (ap Table.named (Words.row-at t x (Words.below-by-kind t S x 5 k) ∙ Words.is-next t x k))
+  next-named x k = sym (ap Table.named (Tables.row-at t x (Tables.below-by-kind t S x 5 k) ∙ Tables.is-next t x k))
 
   next-of-arg : (a : ℕ) → kindOf t a ≡ 5 → kindOf t (nextOf t a) ≡ 6
-  next-of-arg a k = S .arg-row a (Words.below-by-kind t S a 4 k) k .next-kind
+  next-of-arg a k = S .arg-row a (Tables.below-by-kind t S a 4 k) k .next-kind
 
   arg-of-next : (x : ℕ) → kindOf t x ≡ 6 → (kindOf t (argOf t x) ≡ 5) × (nextOf t (argOf t x) ≡ x)
-  arg-of-next x k = let N = S .next-row x (Words.below-by-kind t S x 5 k) k in (N .arg-kind, N .arg-next)
+  arg-of-next x k = let N = S .next-row x (Tables.below-by-kind t S x 5 k) k in (N .arg-kind, N .arg-next)
 
   -- ---- no step leads to an ARG
 
@@ -236,7 +236,7 @@ module _ (t : List ℕ) (S : Structure t) where
           let P = step-open tb g L a st b u c q env s (F .gamma) nz k h in
           let e : turn t L (env a) (Reading.named t env) env ≡ turnEnv tb L (env a) (λ v. env (Table.named (tb .row v))) env
           = turn-is L (env a) (Reading.named t env) (λ v. env (Table.named (tb .row v))) env (λ v kv. ap env (arg-named v kv)) in
-          let d = first-is t S L (Words.for-kind t S L f .1) in (
+          let d = first-is t S L (Tables.for-kind t S L f .1) in (
             P .0,
             P .1,
             P .2,
@@ -266,7 +266,7 @@ module _ (t : List ℕ) (S : Structure t) where
           let P = step-none tb g L a st b u c q env s (F .gamma) nz h in
           let e : leave t L (argNamed t env) env ≡ nextsTo tb L (λ v. env (Table.named (tb .row (argOf t v)))) env
           = leave-is L (argNamed t env) (λ v. env (Table.named (tb .row (argOf t v)))) env (λ v kv. ap env (arg-named (argOf t v) (arg-of-next v kv .0))) in
-          let d = last-is t S L (Words.for-kind t S L f .1) in (
+          let d = last-is t S L (Tables.for-kind t S L f .1) in (
             P .0,
             P .1,
             P .2,
@@ -303,7 +303,7 @@ module _ (t : List ℕ) (S : Structure t) where
           let P = step-again tb g L a st b u c q env s (F .gamma) k h in
           let e : turn t L index (nextNamed t env) env ≡ turnEnv tb L index (λ v. env (Table.named (tb .row (nextOf t v)))) env
           = turn-is L index (nextNamed t env) (λ v. env (Table.named (tb .row (nextOf t v)))) env (λ v kv. ap env (next-named (nextOf t v) (next-of-arg v kv))) in
-          let d = first-is t S L (Words.for-kind t S L f .1) in (
+          let d = first-is t S L (Tables.for-kind t S L f .1) in (
             P .0,
             P .1,
             P .2,
@@ -407,13 +407,13 @@ module _ (t : List ℕ) (S : Structure t) where
       move (Reading.at (suc pc) env os) r s h (quiet pc env os s F l (λ m. let k = m .5 in let z : _≡_ {A = ℕ} 0 1 = cc in omega arith) (λ e. let z : _≡_ {A = ℕ} 0 1 = cc in omega arith) (ap (plainRow tb g) q))
   one-step end pc env os s q l F r h =
       let m = g .end-for pc q l in
-      let e : rowAt t (bodyOf t pc) ≡ for (m .0) (m .1) (m .2) (m .3) (m .4) = sym (Words.row-at t (bodyOf t pc) (Words.for-kind t S (bodyOf t pc) m .0)) ∙ m .5 in
+      let e : rowAt t (bodyOf t pc) ≡ for (m .0) (m .1) (m .2) (m .3) (m .4) = sym (Tables.row-at t (bodyOf t pc) (Tables.for-kind t S (bodyOf t pc) m .0)) ∙ m .5 in
       end-step (bodyOf t pc) (m .0) (m .1) (m .2) (m .3) (m .4) (m .5) pc (g .end-last pc q l) env os s F
       (condition (m .4) (update (m .3) (env (bodyOf t pc)) (env (m .1))) (env (m .2))) refl r
       (ap (λ (z : Row). endBy z t (bodyOf t pc) pc env os) (sym e) ∙ h)
   one-step (out x) pc env os s q l F r h =
       move (Reading.at (suc pc) env os) r s h (quiet pc env os s F l (λ m. let k = m .5 in let z : _≡_ {A = ℕ} 0 1 = cc in omega arith) (λ e. let z : _≡_ {A = ℕ} 0 1 = cc in omega arith) (ap (plainRow tb g) q))
-  one-step unknown pc env os s q l F r h = let k = Words.row-kind t S pc l in let e : Words.rowKind (tb .row pc) ≡ 9 = ap Words.rowKind q in let m = S .kinds pc l in absurd (omega arith)
+  one-step unknown pc env os s q l F r h = let k = Tables.row-kind t S pc l in let e : Tables.rowKind (tb .row pc) ≡ 9 = ap Tables.rowKind q in let m = S .kinds pc l in absurd (omega arith)
 
   -- a reading stops at a row only for a zero step
   pub one-stop : (d : Row) (pc : ℕ) (env : Env) (os : List Opening) → tb .row pc ≡ d → (o : Outcome) → rowStep d t pc env os ≡ stop o
@@ -529,7 +529,7 @@ module _ (t : List ℕ) (S : Structure t) where
       stopped p e d =
           elim (decLt (r .pc) (size t)) [
             | yes l ↦
-                let x = one-stop (rowAt t (r .pc)) (r .pc) (r .env) (r .openings) (Words.row-at t (r .pc) l) p (sym (step-below r l) ∙ e) in
+                let x = one-stop (rowAt t (r .pc)) (r .pc) (r .env) (r .openings) (Tables.row-at t (r .pc) l) p (sym (step-below r l) ∙ e) in
                 inr (record {
                   loop = r .pc;
                   start = x .0;
@@ -567,7 +567,7 @@ module _ (t : List ℕ) (S : Structure t) where
       goes r₁ e d ih =
           elim (decLt (r .pc) (size t)) [
             | yes l ↦
-                let P = one-step (rowAt t (r .pc)) (r .pc) (r .env) (r .openings) s (Words.row-at t (r .pc) l) l F r₁ (sym (step-below r l) ∙ e) in
+                let P = one-step (rowAt t (r .pc)) (r .pc) (r .env) (r .openings) s (Tables.row-at t (r .pc) l) l F r₁ (sym (step-below r l) ∙ e) in
                 on-path (P .0) s (P .1) (P .2) o (ih r₁ (P .1) (P .3) o d)
             | no n ↦ let q = step-past r (omega arith) in let z : _≡_ {A = ℕ} 0 1 = cc in absurd (omega arith)
           ]

@@ -9,7 +9,7 @@ pub mod For
 pub mod End
 pub mod Begin
 pub mod Finish
-pub mod Words
+pub mod Tables
 pub mod Carried
 pub mod Sound
 pub mod Conditions
@@ -17,3 +17,5 @@ pub mod Following
 pub mod Sources
 pub mod Legs
 pub mod Places
+pub mod Loading
+pub mod Order

@@ -38,7 +38,8 @@ use Rattle.lowered.specs.Lower.{roles, roleKind, roleCode, roleSort, roleOutput
 use Rattle.laid.specs.Lists
 use Rattle.laid.specs.Lists.{in-range, has-elem, there, elem-left, elem-right, at-position, position-is}
 use Rattle.laid.specs.Listed
-use Rattle.laid.specs.Listed.{roles-once, listed-role-is-real, real-role-is-listed, listed-wire-is-made, made-wire-is-listed, wires-once, listed-use-is, node-use-is-listed, result-use-is-listed, users-are, users-has, users-once}
+use Rattle.laid.specs.Listed.{roles-once, listed-role-is-real, real-role-is-listed, listed-wire-is-made, made-wire-is-listed, wires-once}
+use Rattle.laid.specs.Uses.{users-are, users-has, users-once}
 use Rattle.laid.specs.Made.{source-is-made}
 use Rattle.laid.specs.Taken.{present, missing}
 use Rattle.laid.specs.Words.{nodes-are-counted, node-count, wire-count, node-at}
@@ -48,7 +49,7 @@ use Rattle.uses.specs.Layout
 use Rattle.uses.specs.Layout.{Layout, Made, portOf, Tree}
 use Rattle.faithful.specs.Table.{Table, HasOut, src, progOf, plan}
 use Rattle.faithful.specs.Table
-use Rattle.faithful.specs.Words
+use Rattle.faithful.specs.Tables
 use Rattle.faithful.specs.Sources.{source-is, to-real, from-real, use-is-listed, to-made, from-made, has-out}
 use Rattle.faithful.specs.Legs.{upFrom, upFrom-range, Placed, tails, fork-rows-long, tails-range, tails-once, spread-built, forkAt, free-low, free-high, free-apart, free-all, fork-all, fork-shift, placed-among, place-there, placed-is, placed-tree, placed-inj}
 use Rattle.faithful.specs.Finish.{Laid}
@@ -163,7 +164,7 @@ module _ (t : List ℕ) where
 
 module _ (t : List ℕ) (S : Structure t) where
   abbrev tb : Table
-  tb = Words.tableOf t
+  tb = Tables.tableOf t
 
   abbrev pub num : Role → ℕ
   num n = position sameRole n (roles t)
@@ -304,10 +305,10 @@ module _ (t : List ℕ) (S : Structure t) where
   op-does : (d : Row) (r : ℕ) → tb .row r ≡ d → Table.isOp tb d ≡ true → (v : View) → step (roleKind t (opNode r)) (roleCode t (opNode r)) v ≡ perform (Table.opProg d (v .own)) v
   unfolding step
   op-does (op c x y) r q h v =
-      let w = Words.op-words t S r c x y q in
+      let w = Tables.op-words t S r c x y q in
       ap (λ (b : Bool). perform (program (cond b Kinds.OP Kinds.PICK) (cond b (word t r 1) 0) (v .own)) v) (eq-eqb (kindOf t r) 2 (w .1)) ∙ ap (λ (z : ℕ). perform (program Kinds.OP z (v .own)) v) (w .2)
   op-does (pick f x y) r q h v =
-      let w = Words.pick-words t S r f x y q in
+      let w = Tables.pick-words t S r f x y q in
       ap (λ (b : Bool). perform (program (cond b Kinds.OP Kinds.PICK) (cond b (word t r 1) 0) (v .own)) v) (ne-eqb (kindOf t r) 2 (λ z. let k = w .1 in omega arith))
   op-does input r q h v = let z : _≡_ {A = ℕ} 0 1 = cc in absurd (omega arith)
   op-does (const x) r q h v = let z : _≡_ {A = ℕ} 0 1 = cc in absurd (omega arith)
@@ -322,11 +323,11 @@ module _ (t : List ℕ) (S : Structure t) where
   unfolding step
   role-does (opNode r) rl v = op-does (tb .row r) r refl (rl .1) v
   role-does (stream L) rl v =
-      let w = Words.for-words t S L (rl .0) (rl .1) (rl .2) (rl .3) (rl .4) (rl .5) in
+      let w = Tables.for-words t S L (rl .0) (rl .1) (rl .2) (rl .3) (rl .4) (rl .5) in
       ap₂ (λ (a b : ℕ). perform (program Kinds.STREAM (5 * a + b) (v .own)) v) (w .5) (w .6) ∙ ap (λ (z : Row). perform (Table.streamProg z (v .own)) v) (sym (rl .5))
   role-does (gate L) rl v = refl
   role-does (guard L) rl v =
-      let w = Words.for-words t S L (rl .0) (rl .1) (rl .2) (rl .3) (rl .4) (rl .5) in
+      let w = Tables.for-words t S L (rl .0) (rl .1) (rl .2) (rl .3) (rl .4) (rl .5) in
       ap (λ (b : ℕ). perform (program Kinds.OP b (v .own)) v) (let e : 3 + word t L 5 ≡ suc (suc (suc (rl .4))) = (let d = w .6 in omega arith) in e) ∙ ap (λ (z : Row). perform (Table.guardProg z (v .own)) v) (sym (rl .5))
   role-does (copySplit L x) rl v = refl
   role-does (copyInvariant L x) rl v = refl

@@ -29,25 +29,26 @@ use Rattle.lowered.specs.Sources.{homeWire, valueWire, roleFeed, source, isFor,
 use Rattle.lowered.specs.Lower.{roleKind}
 use Rattle.lowered.specs.Lower
 use Rattle.laid.specs.Listed
+use Rattle.laid.specs.Uses
 use Rattle.laid.specs.Made.{home-of-start, home-of-op, home-of-for, home-of-arg, home-of-next, node-feed, result-feed}
 use Rattle.uses.specs.Layout
 use Rattle.uses.specs.Machine.{Among}
 use Rattle.faithful.specs.Table.{Table, Slot, val, inner, absent, IsFor, wireBy, slot, slotWire, src, opSlot, streamSlot, guardSlot, gateSlot, copySplitSlot, copyInvariantSlot, carrySlot, argSplitSlot, resultSlot, isForRow, isIn, isArg, HasOut, plan}
 use Rattle.faithful.specs.Table
-use Rattle.faithful.specs.Words
+use Rattle.faithful.specs.Tables
 use Rattle.faithful.specs.Carried.{CarriedBy, carried-by, carried-before}
 
 module _ (t : List ℕ) (S : Structure t) where
   abbrev tb : Table
-  tb = Words.tableOf t
+  tb = Tables.tableOf t
 
   -- ---- values
 
   home-wire : (v B : ℕ) (b : Bool) → v < size t → kindOf t v ≤ 6 → wireBy b (tb .row v) v (argOf t v) B ≡ cond b (homeWire t v) (output (copyInvariant B v) out0)
   home-wire v B false l k = refl
-  home-wire v B true l k = go (tb .row v) (Words.row-kind t S v l)
+  home-wire v B true l k = go (tb .row v) (Tables.row-kind t S v l)
     where
-      go : (d : Row) → Words.rowKind d ≡ kindOf t v → wireBy true d v (argOf t v) B ≡ homeWire t v
+      go : (d : Row) → Tables.rowKind d ≡ kindOf t v → wireBy true d v (argOf t v) B ≡ homeWire t v
       go input e = sym (home-of-start t v (omega arith))
       go (const w) e = sym (home-of-start t v (omega arith))
       go (op c x y) e = sym (home-of-op t v (inl (sym e)))
@@ -62,7 +63,7 @@ module _ (t : List ℕ) (S : Structure t) where
   pub value-wire : (v B : ℕ) → v < size t → kindOf t v ≤ 6 → Table.wireOf tb v B ≡ valueWire t v B
   unfolding Table.wireOf valueWire
   value-wire v B l k =
-      ap (λ (h : ℕ). wireBy (eqb h B) (tb .row v) v (argOf t v) B) (Words.home-of t v l k) ∙ home-wire v B (eqb (home t v) B) l k
+      ap (λ (h : ℕ). wireBy (eqb h B) (tb .row v) v (argOf t v) B) (Tables.home-of t v l k) ∙ home-wire v B (eqb (home t v) B) l k
 
   -- operand j of row r, read in body B
   operand-wire : (r j v B : ℕ) → r < size t → j < operandCount (kindOf t r) → operand t r j ≡ v → reads t r ≡ B → some (Table.wireOf tb v B) ≡ Sources.wireOf t (Sources.named t r j)
@@ -77,9 +78,9 @@ module _ (t : List ℕ) (S : Structure t) where
   -- ---- what the table has
 
   kind-for : (L : ℕ) → isForRow (tb .row L) ≡ eqb (kindOf t L) 4
-  kind-for L = elim (decLt L (size t)) [ yes l ↦ go (tb .row L) (Words.row-kind t S L l) | no n ↦ rw (Words.kind-past t S L (omega arith), Words.row-past t L (omega arith)) ]
+  kind-for L = elim (decLt L (size t)) [ yes l ↦ go (tb .row L) (Tables.row-kind t S L l) | no n ↦ rw (Tables.kind-past t S L (omega arith), Tables.row-past t L (omega arith)) ]
     where
-      go : (d : Row) → Words.rowKind d ≡ kindOf t L → isForRow d ≡ eqb (kindOf t L) 4
+      go : (d : Row) → Tables.rowKind d ≡ kindOf t L → isForRow d ≡ eqb (kindOf t L) 4
       go input e = rw (sym e)
       go (const w) e = rw (sym e)
       go (op c x y) e = rw (sym e)
@@ -92,9 +93,9 @@ module _ (t : List ℕ) (S : Structure t) where
       go unknown e = rw (sym e)
 
   kind-arg : (a : ℕ) → isArg (tb .row a) ≡ eqb (kindOf t a) 5
-  kind-arg a = elim (decLt a (size t)) [ yes l ↦ go (tb .row a) (Words.row-kind t S a l) | no n ↦ rw (Words.kind-past t S a (omega arith), Words.row-past t a (omega arith)) ]
+  kind-arg a = elim (decLt a (size t)) [ yes l ↦ go (tb .row a) (Tables.row-kind t S a l) | no n ↦ rw (Tables.kind-past t S a (omega arith), Tables.row-past t a (omega arith)) ]
     where
-      go : (d : Row) → Words.rowKind d ≡ kindOf t a → isArg d ≡ eqb (kindOf t a) 5
+      go : (d : Row) → Tables.rowKind d ≡ kindOf t a → isArg d ≡ eqb (kindOf t a) 5
       go input e = rw (sym e)
       go (const w) e = rw (sym e)
       go (op c x y) e = rw (sym e)
@@ -107,9 +108,9 @@ module _ (t : List ℕ) (S : Structure t) where
       go unknown e = rw (sym e)
 
   kind-op : (r : ℕ) → Table.isOp tb (tb .row r) ≡ (eqb (kindOf t r) 2 || eqb (kindOf t r) 3)
-  kind-op r = elim (decLt r (size t)) [ yes l ↦ go (tb .row r) (Words.row-kind t S r l) | no n ↦ rw (Words.kind-past t S r (omega arith), Words.row-past t r (omega arith)) ]
+  kind-op r = elim (decLt r (size t)) [ yes l ↦ go (tb .row r) (Tables.row-kind t S r l) | no n ↦ rw (Tables.kind-past t S r (omega arith), Tables.row-past t r (omega arith)) ]
     where
-      go : (d : Row) → Words.rowKind d ≡ kindOf t r → Table.isOp tb d ≡ (eqb (kindOf t r) 2 || eqb (kindOf t r) 3)
+      go : (d : Row) → Tables.rowKind d ≡ kindOf t r → Table.isOp tb d ≡ (eqb (kindOf t r) 2 || eqb (kindOf t r) 3)
       go input e = rw (sym e)
       go (const w) e = rw (sym e)
       go (op c x y) e = rw (sym e)
@@ -122,7 +123,7 @@ module _ (t : List ℕ) (S : Structure t) where
       go unknown e = rw (sym e)
 
   kind-out : (q : ℕ) (d : Row) → tb .row q ≡ d → ((x : ℕ) → d ≡ out x → ⊥) → eqb (kindOf t q) 8 ≡ false
-  kind-out q d e n = ne-eqb (kindOf t q) 8 (λ k. let l = Words.below-by-kind t S q 7 k in n (word t q 1) (sym e ∙ Words.row-at t q l ∙ Words.is-out t q k))
+  kind-out q d e n = ne-eqb (kindOf t q) 8 (λ k. let l = Tables.below-by-kind t S q 7 k in n (word t q 1) (sym e ∙ Tables.row-at t q l ∙ Tables.is-out t q k))
 
   -- a node that the table does not have takes nothing
   none-there : (n : Role) (k : Input) → Sources.has t n ≡ false → source t (into n k) ≡ none
@@ -138,25 +139,25 @@ module _ (t : List ℕ) (S : Structure t) where
   op-source : (r : ℕ) (d : Row) → tb .row r ≡ d → (k : Input) → slotWire tb (opSlot d (reads t r) r k) ≡ source t (into (opNode r) k)
   unfolding operandCount
   op-source r (op c x y) q in0 =
-      let w = Words.op-words t S r c x y q in
+      let w = Tables.op-words t S r c x y q in
       operand-wire r 0 x (reads t r) (w .0) (counts r 2 2 (w .1) refl 0 (omega arith)) (w .3) refl ∙ sym (node-feed t (opNode r) in0 (sym (kind-op r) ∙ ap (Table.isOp tb) q))
   op-source r (op c x y) q in1 =
-      let w = Words.op-words t S r c x y q in
+      let w = Tables.op-words t S r c x y q in
       operand-wire r 1 y (reads t r) (w .0) (counts r 2 2 (w .1) refl 1 (omega arith)) (w .4) refl ∙ sym (node-feed t (opNode r) in1 (sym (kind-op r) ∙ ap (Table.isOp tb) q))
   op-source r (op c x y) q in2 =
-      let w = Words.op-words t S r c x y q in
+      let w = Tables.op-words t S r c x y q in
       sym (node-feed t (opNode r) in2 (sym (kind-op r) ∙ ap (Table.isOp tb) q) ∙ ap (Sources.wireOf t) (two (eqb (kindOf t r) 3) (ne-eqb (kindOf t r) 3 (λ z. let k = w .1 in omega arith))))
     where
       two : (b : Bool) → b ≡ false → cond b (Sources.named t r 2) Sources.nothing ≡ Sources.nothing
       two b h = rw h
   op-source r (pick f x y) q in0 =
-      let w = Words.pick-words t S r f x y q in
+      let w = Tables.pick-words t S r f x y q in
       operand-wire r 0 f (reads t r) (w .0) (counts r 3 3 (w .1) refl 0 (omega arith)) (w .2) refl ∙ sym (node-feed t (opNode r) in0 (sym (kind-op r) ∙ ap (Table.isOp tb) q))
   op-source r (pick f x y) q in1 =
-      let w = Words.pick-words t S r f x y q in
+      let w = Tables.pick-words t S r f x y q in
       operand-wire r 1 x (reads t r) (w .0) (counts r 3 3 (w .1) refl 1 (omega arith)) (w .3) refl ∙ sym (node-feed t (opNode r) in1 (sym (kind-op r) ∙ ap (Table.isOp tb) q))
   op-source r (pick f x y) q in2 =
-      let w = Words.pick-words t S r f x y q in
+      let w = Tables.pick-words t S r f x y q in
       operand-wire r 2 y (reads t r) (w .0) (counts r 3 3 (w .1) refl 2 (omega arith)) (w .4) refl
       ∙ sym (node-feed t (opNode r) in2 (sym (kind-op r) ∙ ap (Table.isOp tb) q) ∙ ap (Sources.wireOf t) (three (eqb (kindOf t r) 3) (eq-eqb (kindOf t r) 3 (w .1))))
     where
@@ -176,13 +177,13 @@ module _ (t : List ℕ) (S : Structure t) where
   stream-source : (L : ℕ) (d : Row) → tb .row L ≡ d → (k : Input) → slotWire tb (streamSlot d (reads t L) L k) ≡ source t (into (stream L) k)
   unfolding operandCount
   stream-source L (for s st b u c) q in0 =
-      let w = Words.for-words t S L s st b u c q in
+      let w = Tables.for-words t S L s st b u c q in
       operand-wire L 0 s (reads t L) (w .0) (counts L 4 3 (w .1) refl 0 (omega arith)) (w .2) refl ∙ sym (node-feed t (stream L) in0 (sym (kind-for L) ∙ ap isForRow q))
   stream-source L (for s st b u c) q in1 =
-      let w = Words.for-words t S L s st b u c q in
+      let w = Tables.for-words t S L s st b u c q in
       operand-wire L 1 st (reads t L) (w .0) (counts L 4 3 (w .1) refl 1 (omega arith)) (w .3) refl ∙ sym (node-feed t (stream L) in1 (sym (kind-for L) ∙ ap isForRow q))
   stream-source L (for s st b u c) q in2 =
-      let w = Words.for-words t S L s st b u c q in
+      let w = Tables.for-words t S L s st b u c q in
       operand-wire L 2 b (reads t L) (w .0) (counts L 4 3 (w .1) refl 2 (omega arith)) (w .4) refl ∙ sym (node-feed t (stream L) in2 (sym (kind-for L) ∙ ap isForRow q))
   stream-source L input q k = sym (none-there (stream L) k (sym (kind-for L) ∙ ap isForRow q))
   stream-source L (const x) q k = sym (none-there (stream L) k (sym (kind-for L) ∙ ap isForRow q))
@@ -197,10 +198,10 @@ module _ (t : List ℕ) (S : Structure t) where
   guard-source : (L : ℕ) (d : Row) → tb .row L ≡ d → (k : Input) → slotWire tb (guardSlot d (reads t L) L k) ≡ source t (into (guard L) k)
   unfolding operandCount
   guard-source L (for s st b u c) q in0 =
-      let w = Words.for-words t S L s st b u c q in
+      let w = Tables.for-words t S L s st b u c q in
       operand-wire L 0 s (reads t L) (w .0) (counts L 4 3 (w .1) refl 0 (omega arith)) (w .2) refl ∙ sym (node-feed t (guard L) in0 (sym (kind-for L) ∙ ap isForRow q))
   guard-source L (for s st b u c) q in1 =
-      let w = Words.for-words t S L s st b u c q in
+      let w = Tables.for-words t S L s st b u c q in
       operand-wire L 2 b (reads t L) (w .0) (counts L 4 3 (w .1) refl 2 (omega arith)) (w .4) refl ∙ sym (node-feed t (guard L) in1 (sym (kind-for L) ∙ ap isForRow q))
   guard-source L (for s st b u c) q in2 = sym (node-feed t (guard L) in2 (sym (kind-for L) ∙ ap isForRow q))
   guard-source L input q k = sym (none-there (guard L) k (sym (kind-for L) ∙ ap isForRow q))
@@ -244,17 +245,17 @@ module _ (t : List ℕ) (S : Structure t) where
   unfolding operandCount
   carry-source a (arg i) q in0 = sym (node-feed t (carry a) in0 (sym (kind-arg a) ∙ ap isArg q))
   carry-source a (arg i) q in1 =
-      let w = Words.arg-words t S a i q in
+      let w = Tables.arg-words t S a i q in
       let A = S .arg-row a (w .0) (w .1) in
       operand-wire a 0 i (reads t (bodyOf t a)) (w .0) (counts a 5 1 (w .1) refl 0 (omega arith)) (w .2) (S .arg-reads a (w .0) (w .1) ∙ sym (S .reads-body (bodyOf t a) (λ z. let k = A .loop-for in omega arith)))
       ∙ sym (node-feed t (carry a) in1 (sym (kind-arg a) ∙ ap isArg q))
   carry-source a (arg i) q in2 =
-      let w = Words.arg-words t S a i q in
+      let w = Tables.arg-words t S a i q in
       let A = S .arg-row a (w .0) (w .1) in
       let x = nextOf t a in
-      let lx : x < size t = Words.below-by-kind t S x 5 (A .next-kind) in
-      let e : tb .row x ≡ next (word t x 1) = Words.row-at t x lx ∙ Words.is-next t x (A .next-kind) in
-      let n = Words.next-words t S x (word t x 1) e in
+      let lx : x < size t = Tables.below-by-kind t S x 5 (A .next-kind) in
+      let e : tb .row x ≡ next (word t x 1) = Tables.row-at t x lx ∙ Tables.is-next t x (A .next-kind) in
+      let n = Tables.next-words t S x (word t x 1) e in
       operand-wire x 0 (Table.named (tb .row x)) (bodyOf t a) lx (counts x 6 1 (A .next-kind) refl 0 (omega arith)) (n .2 ∙ sym (ap Table.named e))
       (S .reads-body x (λ z. let k = A .next-kind in omega arith) ∙ A .next-body)
       ∙ sym (node-feed t (carry a) in2 (sym (kind-arg a) ∙ ap isArg q))
@@ -279,7 +280,7 @@ module _ (t : List ℕ) (S : Structure t) where
   result-source : (q : ℕ) (d : Row) → tb .row q ≡ d → slotWire tb (resultSlot d (size t) (suc (size t))) ≡ source t (result q)
   unfolding operandCount
   result-source q (out x) e =
-      let w = Words.out-words t S q x e in
+      let w = Tables.out-words t S q x e in
       operand-wire q 0 x (size t) (w .0) (counts q 8 1 (w .1) refl 0 (omega arith)) (w .2) (S .reads-body q (λ z. let k = w .1 in omega arith) ∙ S .out-body q (w .0) (w .1))
       ∙ sym (result-feed t q (eq-eqb (kindOf t q) 8 (w .1)))
   result-source q input e = sym (not-result q (kind-out q input e (λ x d. let z : _≡_ {A = ℕ} 0 1 = cc in omega arith)))
@@ -308,7 +309,7 @@ module _ (t : List ℕ) (S : Structure t) where
 
   for-real : (n : Role) (L : ℕ) → IsFor tb L → Listed.roleRow n ≡ L → Listed.roleValue n ≡ L → Sources.has t n ≡ isFor t L → Listed.Real t n
   for-real n L f a b h =
-      let k = Words.for-kind t S L f in
+      let k = Tables.for-kind t S L f in
       let l : L < size t = k .0 in
       record { row = omega arith; value = omega arith; there = h ∙ eq-eqb (kindOf t L) 4 (k .1) }
 
@@ -320,7 +321,7 @@ module _ (t : List ℕ) (S : Structure t) where
 
   arg-real : (n : Role) (a i : ℕ) → tb .row a ≡ arg i → Listed.roleRow n ≡ a → Listed.roleValue n ≡ a → Sources.has t n ≡ isArgRow t a → Listed.Real t n
   arg-real n a i q d b h =
-      let w = Words.arg-words t S a i q in
+      let w = Tables.arg-words t S a i q in
       let l : a < size t = w .0 in
       record { row = omega arith; value = omega arith; there = h ∙ eq-eqb (kindOf t a) 5 (w .1) }
 
@@ -335,15 +336,15 @@ module _ (t : List ℕ) (S : Structure t) where
   to-real (argSplit a) rl = arg-real (argSplit a) a (rl .0) (rl .1) refl refl refl
 
   arg-form : (a : ℕ) → isArgRow t a ≡ true → (i : ℕ) × (tb .row a ≡ arg i)
-  arg-form a h = let k = eqb-true (kindOf t a) 5 h in (word t a 1, Words.row-at t a (Words.below-by-kind t S a 4 k) ∙ Words.is-arg t a k)
+  arg-form a h = let k = eqb-true (kindOf t a) 5 h in (word t a 1, Tables.row-at t a (Tables.below-by-kind t S a 4 k) ∙ Tables.is-arg t a k)
 
   pub from-real : (n : Role) → Listed.Real t n → Table.Real tb n
   from-real (opNode r) rl = (rl .row, kind-op r ∙ rl .there)
-  from-real (stream L) rl = Words.for-row t S L (eqb-true (kindOf t L) 4 (rl .there))
-  from-real (gate L) rl = Words.for-row t S L (eqb-true (kindOf t L) 4 (rl .there))
-  from-real (guard L) rl = Words.for-row t S L (eqb-true (kindOf t L) 4 (rl .there))
-  from-real (copySplit L v) rl = (Words.for-row t S L (carried-by t S L v (rl .there) .is-loop), rl .there)
-  from-real (copyInvariant L v) rl = (Words.for-row t S L (carried-by t S L v (rl .there) .is-loop), rl .there)
+  from-real (stream L) rl = Tables.for-row t S L (eqb-true (kindOf t L) 4 (rl .there))
+  from-real (gate L) rl = Tables.for-row t S L (eqb-true (kindOf t L) 4 (rl .there))
+  from-real (guard L) rl = Tables.for-row t S L (eqb-true (kindOf t L) 4 (rl .there))
+  from-real (copySplit L v) rl = (Tables.for-row t S L (carried-by t S L v (rl .there) .is-loop), rl .there)
+  from-real (copyInvariant L v) rl = (Tables.for-row t S L (carried-by t S L v (rl .there) .is-loop), rl .there)
   from-real (carry a) rl = arg-form a (rl .there)
   from-real (argSplit a) rl = arg-form a (rl .there)
 
@@ -352,29 +353,29 @@ module _ (t : List ℕ) (S : Structure t) where
   op-cases r h = go (eqb (kindOf t r) 2) refl h
     where
       go : (b : Bool) → eqb (kindOf t r) 2 ≡ b → (b || eqb (kindOf t r) 3) ≡ true → r < size t
-      go true e k = Words.below-by-kind t S r 1 (eqb-true (kindOf t r) 2 e)
-      go false e k = Words.below-by-kind t S r 2 (eqb-true (kindOf t r) 3 k)
+      go true e k = Tables.below-by-kind t S r 1 (eqb-true (kindOf t r) 2 e)
+      go false e k = Tables.below-by-kind t S r 2 (eqb-true (kindOf t r) 3 k)
 
   real-if-has : (n : Role) → Sources.has t n ≡ true → Listed.Real t n
   real-if-has (opNode r) h = record { row = op-cases r h; value = op-cases r h; there = h }
-  real-if-has (stream L) h = let l = Words.below-by-kind t S L 3 (eqb-true (kindOf t L) 4 h) in record { row = l; value = l; there = h }
-  real-if-has (gate L) h = let l = Words.below-by-kind t S L 3 (eqb-true (kindOf t L) 4 h) in record { row = l; value = l; there = h }
-  real-if-has (guard L) h = let l = Words.below-by-kind t S L 3 (eqb-true (kindOf t L) 4 h) in record { row = l; value = l; there = h }
+  real-if-has (stream L) h = let l = Tables.below-by-kind t S L 3 (eqb-true (kindOf t L) 4 h) in record { row = l; value = l; there = h }
+  real-if-has (gate L) h = let l = Tables.below-by-kind t S L 3 (eqb-true (kindOf t L) 4 h) in record { row = l; value = l; there = h }
+  real-if-has (guard L) h = let l = Tables.below-by-kind t S L 3 (eqb-true (kindOf t L) 4 h) in record { row = l; value = l; there = h }
   real-if-has (copySplit L v) h = copy-real (copySplit L v) L v h refl refl refl
   real-if-has (copyInvariant L v) h = copy-real (copyInvariant L v) L v h refl refl refl
-  real-if-has (carry a) h = let l = Words.below-by-kind t S a 4 (eqb-true (kindOf t a) 5 h) in record { row = l; value = l; there = h }
-  real-if-has (argSplit a) h = let l = Words.below-by-kind t S a 4 (eqb-true (kindOf t a) 5 h) in record { row = l; value = l; there = h }
+  real-if-has (carry a) h = let l = Tables.below-by-kind t S a 4 (eqb-true (kindOf t a) 5 h) in record { row = l; value = l; there = h }
+  real-if-has (argSplit a) h = let l = Tables.below-by-kind t S a 4 (eqb-true (kindOf t a) 5 h) in record { row = l; value = l; there = h }
 
   pub use-is-listed : (p : Use) (w : Wire) → source t p ≡ some w → Among p (Lower.uses t)
   use-is-listed (into n k) w h = go (Sources.has t n) refl
     where
       go : (b : Bool) → Sources.has t n ≡ b → Among (into n k) (Lower.uses t)
-      go true e = Listed.node-use-is-listed t n k w (real-if-has n e) h
+      go true e = Uses.node-use-is-listed t n k w (real-if-has n e) h
       go false e = let q = none-there n k e in let z : _≡_ {A = ℕ} 0 1 = cc in absurd (omega arith)
   use-is-listed (result q) w h = go (eqb (kindOf t q) 8) refl
     where
       go : (b : Bool) → eqb (kindOf t q) 8 ≡ b → Among (result q) (Lower.uses t)
-      go true e = Listed.result-use-is-listed t q w (Words.below-by-kind t S q 7 (eqb-true (kindOf t q) 8 e)) e h
+      go true e = Uses.result-use-is-listed t q w (Tables.below-by-kind t S q 7 (eqb-true (kindOf t q) 8 e)) e h
       go false e = let k = not-result q e in let z : _≡_ {A = ℕ} 0 1 = cc in absurd (omega arith)
 
   -- ---- wires
@@ -413,9 +414,9 @@ module _ (t : List ℕ) (S : Structure t) where
   out-has (argSplit a) out1 h = tt
 
   kind-in : (v : ℕ) → v < size t → isIn (tb .row v) ≡ leb (kindOf t v) 1
-  kind-in v l = go (tb .row v) (Words.row-kind t S v l)
+  kind-in v l = go (tb .row v) (Tables.row-kind t S v l)
     where
-      go : (d : Row) → Words.rowKind d ≡ kindOf t v → isIn d ≡ leb (kindOf t v) 1
+      go : (d : Row) → Tables.rowKind d ≡ kindOf t v → isIn d ≡ leb (kindOf t v) 1
       go input e = rw (sym e)
       go (const w) e = rw (sym e)
       go (op c x y) e = rw (sym e)
