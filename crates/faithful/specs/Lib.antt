@@ -19,3 +19,6 @@ pub mod Legs
 pub mod Places
 pub mod Loading
 pub mod Order
+pub mod Endings
+pub mod Faults
+pub mod Statements

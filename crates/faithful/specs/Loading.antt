@@ -141,15 +141,17 @@ module _ (t : List ℕ) (S : Structure t) (inputs : List ℕ) where
   cells x l =
       elim (decLt x (startCount g)) [
         | yes m ↦
-            let c : cell x ≡ some (startWord g inputs x) = ap (λ (b : Bool). cellBy b x) (lt-ltb x (startCount g) m) in
-            (place (2 * x) (omega arith) ∙ ap (λ (b : Bool). Words.pick b (Words.pick (eqb ((2 * x) % 2) 0) 1 (startWord g inputs ((2 * x) / 2))) 0) (lt-ltb (2 * x) (2 * startCount g) (omega arith))
-            ∙ pair-even x 1 (startWord g inputs ((2 * x) / 2)) (2 * x) refl ∙ ap flag (sym c),
-            place (2 * x + 1) (omega arith) ∙ ap (λ (b : Bool). Words.pick b (Words.pick (eqb ((2 * x + 1) % 2) 0) 1 (startWord g inputs ((2 * x + 1) / 2))) 0) (lt-ltb (2 * x + 1) (2 * startCount g) (omega arith))
-            ∙ pair-odd x 1 (startWord g inputs ((2 * x + 1) / 2)) (2 * x + 1) refl ∙ ap (startWord g inputs) (let e : (2 * x + 1) / 2 ≡ x = omega arith in e) ∙ ap wordOf (sym c))
+            let c : cell x ≡ some (startWord g inputs x) = ap (λ (b : Bool). cellBy b x) (lt-ltb x (startCount g) m) in (
+              place (2 * x) (omega arith) ∙ ap (λ (b : Bool). Words.pick b (Words.pick (eqb ((2 * x) % 2) 0) 1 (startWord g inputs ((2 * x) / 2))) 0) (lt-ltb (2 * x) (2 * startCount g) (omega arith))
+                  ∙ pair-even x 1 (startWord g inputs ((2 * x) / 2)) (2 * x) refl ∙ ap flag (sym c),
+              place (2 * x + 1) (omega arith) ∙ ap (λ (b : Bool). Words.pick b (Words.pick (eqb ((2 * x + 1) % 2) 0) 1 (startWord g inputs ((2 * x + 1) / 2))) 0) (lt-ltb (2 * x + 1) (2 * startCount g) (omega arith))
+                  ∙ pair-odd x 1 (startWord g inputs ((2 * x + 1) / 2)) (2 * x + 1) refl ∙ ap (startWord g inputs) (let e : (2 * x + 1) / 2 ≡ x = omega arith in e) ∙ ap wordOf (sym c),
+            )
         | no m ↦
-            let c : cell x ≡ none = ap (λ (b : Bool). cellBy b x) (le-ltb x (startCount g) (omega arith)) in
-            (place (2 * x) (omega arith) ∙ ap (λ (b : Bool). Words.pick b (Words.pick (eqb ((2 * x) % 2) 0) 1 (startWord g inputs ((2 * x) / 2))) 0) (le-ltb (2 * x) (2 * startCount g) (omega arith)) ∙ ap flag (sym c),
-            place (2 * x + 1) (omega arith) ∙ ap (λ (b : Bool). Words.pick b (Words.pick (eqb ((2 * x + 1) % 2) 0) 1 (startWord g inputs ((2 * x + 1) / 2))) 0) (le-ltb (2 * x + 1) (2 * startCount g) (omega arith)) ∙ ap wordOf (sym c))
+            let c : cell x ≡ none = ap (λ (b : Bool). cellBy b x) (le-ltb x (startCount g) (omega arith)) in (
+              place (2 * x) (omega arith) ∙ ap (λ (b : Bool). Words.pick b (Words.pick (eqb ((2 * x) % 2) 0) 1 (startWord g inputs ((2 * x) / 2))) 0) (le-ltb (2 * x) (2 * startCount g) (omega arith)) ∙ ap flag (sym c),
+              place (2 * x + 1) (omega arith) ∙ ap (λ (b : Bool). Words.pick b (Words.pick (eqb ((2 * x + 1) % 2) 0) 1 (startWord g inputs ((2 * x + 1) / 2))) 0) (le-ltb (2 * x + 1) (2 * startCount g) (omega arith)) ∙ ap wordOf (sym c),
+            )
       ]
 
   zero-at : (j : ℕ) → 2 * wireCount g ≤ j → j < stateLength g → getD (loaded g inputs) j 0 ≡ 0
