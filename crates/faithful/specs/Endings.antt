@@ -122,7 +122,7 @@ pub record AsRead (t words u : List ℕ) : Type 0 where
   -- every record is (0, 0, 0, 0)
   pub records-zero : (i : ℕ) → i < nodeCount (loweredWords t) → recordAt (wireCount (loweredWords t)) u i ≡ rest
 
-holds-token : (u : List ℕ) (w x : ℕ) → Holds u w (some x) → tokenAt u w ≡ some x
+pub holds-token : (u : List ℕ) (w x : ℕ) → Holds u w (some x) → tokenAt u w ≡ some x
 holds-token u w x h = ap₂ token (h .0) (h .1)
 
 module _ (t : List ℕ) (S : Structure t) (ok : graphRefusal (loweredWords t) ≡ 0) where
@@ -133,7 +133,7 @@ module _ (t : List ℕ) (S : Structure t) (ok : graphRefusal (loweredWords t) �
   g = loweredWords t
 
   -- the row of result wire k
-  result-row : (k : ℕ) → k < resultCount g → (q : ℕ) × (getElem? (outRows t) k ≡ some q) × (tb .row q ≡ out (word t q 1))
+  pub result-row : (k : ℕ) → k < resultCount g → (q : ℕ) × (getElem? (outRows t) k ≡ some q) × (tb .row q ≡ out (word t q 1))
   unfolding outRows resultTotal
   result-row k l =
       let c = result-count t in

@@ -21,4 +21,5 @@ pub mod Loading
 pub mod Order
 pub mod Endings
 pub mod Faults
+pub mod Waiting
 pub mod Statements

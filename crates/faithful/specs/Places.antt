@@ -108,7 +108,7 @@ module _ (t : List ℕ) where
       (elem-right (forkRows (wireSort t v) x (users t v) f) (forksFrom t (suc x) ws (f + forkWires (users t v))) (forkAt (usersEach t ws) 0 i + k) ∙ ih)
 
   -- the number of a node's first output
-  abbrev firstAt : List Role → ℕ → ℕ → ℕ
+  abbrev pub firstAt : List Role → ℕ → ℕ → ℕ
   firstAt [] f i = f
   firstAt (n ∷ ns) f zero = f
   firstAt (n ∷ ns) f (suc i) = firstAt ns (f + outputs (roleKind t n)) i
@@ -169,7 +169,7 @@ module _ (t : List ℕ) (S : Structure t) where
   abbrev pub num : Role → ℕ
   num n = position sameRole n (roles t)
 
-  abbrev firstOf : Role → ℕ
+  abbrev pub firstOf : Role → ℕ
   firstOf n = firstAt t (roles t) (length (starts t)) (num n)
 
   pub role-listed : (n : Role) → Table.Real tb n → Among n (roles t)

@@ -35,6 +35,7 @@ use Rattle.step.specs.Machines.{rest}
 use Rattle.graph.specs.Below.{every, both-true, every-each, times, times-somewhere}
 use Rattle.graph.specs.Graph.{nodeCount, wireCount, inputAt, inputOf, resultCount, resultAt, results, Node}
 use Rattle.graph.specs.Refusal.{graphRefusal}
+use Rattle.graph.specs.Accepted.{node-in-range}
 use Rattle.state.specs.Load.{loaded}
 use Rattle.state.specs.Net.{netOf, fire}
 use Rattle.state.specs.Run.{isFull, isResult, complete, othersEmpty, resultsFull, phasesZero, COMPLETE, SPENT, ZERO-STEP, outcome}
@@ -49,13 +50,16 @@ use Rattle.lowered.specs.Lower.{wireNumber, loweredWords}
 use Rattle.lowered.specs.Room.{checkAnswer, refusedBy, hasRoom}
 use Rattle.laid.specs.Answers.{number-0-is-no-refusal, checked-table-lowers}
 use Rattle.faithful.specs.Conditions.{turnsOf, turns-reverse, rawOf, gatedOf}
+use Rattle.faithful.specs.Table.{IsFor}
 use Rattle.faithful.specs.Tables.{tableOf, for-row, for-kind}
 use Rattle.faithful.specs.Sound.{passing-is-good}
 use Rattle.faithful.specs.Following.{Follows, Ended, Faulted, followed}
 use Rattle.faithful.specs.Finish.{finished, rests}
-use Rattle.faithful.specs.Places.{laid, layout}
+use Rattle.faithful.specs.Places.{laid, num}
 use Rattle.faithful.specs.Order.{first-state, follows-first, Shows, order-shows}
 use Rattle.faithful.specs.Endings.{AsRead, ended-as-read, answers-complete}
+use Rattle.faithful.specs.Faults.{ZeroStepped, zero-step-lasts, answers-zero-step}
+use Rattle.faithful.specs.Waiting.{waiting, not-complete}
 
 abbrev pub loadedTable : List ℕ → List ℕ → List ℕ
 loadedTable t inputs = loaded (loweredWords t) inputs
@@ -170,3 +174,58 @@ module _ (t : List ℕ) (checked : checkAnswer t .number ≡ 0) where
                   };
             },
       )
+
+  -- ---- runs
+
+  -- Any run with an allowance of F, whatever its list of nodes, answers COMPLETE, has made F firings and ends as the reading does.
+  pub every-run-is-complete : (inputs words : List ℕ) (openings : List Opening) → Reads t inputs (ended words openings)
+      → (F : ℕ) × ((list : List ℕ) (allowance : ℕ) → F ≤ allowance → let p = runOf (loweredWords t) list (loadedTable t inputs) allowance in
+      (outcome (loweredWords t) (p .state) .answer ≡ COMPLETE) × (F + p .left ≡ allowance) × AsRead t words (p .state))
+  every-run-is-complete inputs words openings r =
+      let w = one-order inputs words openings r in (
+        length (w .0),
+        λ list allowance enough.
+            let e = enough-is-not-spent (loweredWords t) ok (w .0) (loadedTable t inputs) (w .1) (w .2) (w .3) list allowance enough in
+            let A = subst (AsRead t words) (sym (e .0)) (w .4) in
+            let h = subst (AtRest (loweredWords t)) (sym (e .0)) (w .3) in
+            (answers-complete t S ok words (runOf (loweredWords t) list (loadedTable t inputs) allowance .state) A h, e .1, A),
+      )
+
+  -- ---- a zero step
+
+  -- an order that follows the reading up to the FOR row leaves its STREAM waiting with a zero step
+  faulted-order : (inputs : List ℕ) (L : ℕ) (openings : List Opening) → Reads t inputs (zeroStep L openings)
+      → (order : List ℕ) × (u : List ℕ) × Fires (loweredWords t) order (loadedTable t inputs) u × ZeroStepped (loweredWords t) u (num t S (stream L)) × IsFor (tableOf t) L
+  faulted-order inputs L openings r = go (reading-of inputs (zeroStep L openings) r)
+    where
+      go : Ended t S (first-state t S ok inputs) (zeroStep L openings) ⊎ Faulted t S (first-state t S ok inputs) (zeroStep L openings)
+          → (order : List ℕ) × (u : List ℕ) × Fires (loweredWords t) order (loadedTable t inputs) u × ZeroStepped (loweredWords t) u (num t S (stream L)) × IsFor (tableOf t) L
+      go (inl e) = let k = e .outcome in let z : _≡_ {A = ℕ} 0 1 = cc in absurd (omega arith)
+      go (inr e) =
+          let k = e .outcome in
+          let d : L ≡ e .loop = cc in
+          let x = order-shows t S ok inputs (e .path) (e .there) (e .steps) in (
+            x .order,
+            x .state,
+            x .fires,
+            subst (λ (z : ℕ). ZeroStepped (loweredWords t) (x .state) (num t S (stream z))) (sym d)
+                (waiting t S ok inputs (e .loop) (e .start) (e .step) (e .bound) (e .change) (e .compare) (e .row) (e .env) (e .there) (e .follows .gamma) (e .zero-step) x),
+            subst (IsFor (tableOf t)) (sym d) (e .start, e .step, e .bound, e .change, e .compare, e .row),
+          )
+
+  -- Every order that rests answers ZERO STEP: the STREAM of some loop in phase 0 has three tokens, and its step is 0.
+  pub zero-step-is-never-complete : (inputs : List ℕ) (L : ℕ) (openings : List Opening) → Reads t inputs (zeroStep L openings)
+      → (order u : List ℕ) → Fires (loweredWords t) order (loadedTable t inputs) u → AtRest (loweredWords t) u → outcome (loweredWords t) u .answer ≡ ZERO-STEP
+  zero-step-is-never-complete inputs L openings r order u q h =
+      let f = faulted-order inputs L openings r in
+      let a = every-order-rests-alike (loweredWords t) ok order (loadedTable t inputs) u q h (f .0) (f .1) (f .2) in
+      let Z = zero-step-lasts (loweredWords t) ok (a .extends .0) (f .1) u (num t S (stream L)) (f .3) (a .extends .1) in
+      answers-zero-step (loweredWords t) u (num t S (stream L)) (node-in-range (loweredWords t) (num t S (stream L)) (Z .node) (Z .here)) Z h (not-complete t S ok u L (f .4) Z)
+
+  -- So no run answers COMPLETE.
+  pub no-run-completes-a-fault : (inputs : List ℕ) (L : ℕ) (openings : List Opening) → Reads t inputs (zeroStep L openings)
+      → (list : List ℕ) (allowance : ℕ) → outcome (loweredWords t) (runOf (loweredWords t) list (loadedTable t inputs) allowance .state) .answer ≢ COMPLETE
+  no-run-completes-a-fault inputs L openings r list allowance c =
+      let m = run-is-an-order (loweredWords t) list (loadedTable t inputs) allowance (λ z. let y : COMPLETE ≡ SPENT = sym c ∙ z in omega arith) in
+      let z = zero-step-is-never-complete inputs L openings r (m .0) (runOf (loweredWords t) list (loadedTable t inputs) allowance .state) (m .1) (m .2) in
+      let y : COMPLETE ≡ ZERO-STEP = sym c ∙ z in omega arith
