@@ -1,0 +1,296 @@
+-- One loop L: the roles that belong to it, the values that its nodes give, the ports that they take from, and three stages of them.
+-- Assumes nothing.
+use mathlib.Core.Path.{_≡_, refl, sym, ap, ap₂, _∙_, subst, subst₂}
+use mathlib.Core.Logic.{_≢_, _⊎_, inl, inr}
+use mathlib.Core.Bool.{Bool, true, false}
+use mathlib.Core.Option.{Option, none, some}
+use mathlib.Core.List.{List, [], _∷_, _++_}
+use Prim.Native.Nat.{ℕ, zero, suc, _+_, _*_, _≤_, _<_}
+use native.Mathlib.Omega.{arith}
+use native.Mathlib.Decide.{ℕ-discrete, decLe}
+use lib.Dec.{T, eqb, eqb→eq, eqb-refl}
+use mir.Facts.{yes-eqb}
+use mathlib.Core.Bool.{_&&_}
+use Prim.Native.Nat.{_-_}
+use Rattle.word.specs.Words.{condition, update, operate}
+use Rattle.step.specs.Kinds.{Input, in0, in1, in2, Output, out0, out1, STREAM, GATE, CARRY, INVARIANT, SPLIT, OP, PICK}
+use Rattle.step.specs.Firing.{View, Effect, Program, stop, give, ask, perform, gives, takes, waits, room, fillable}
+use Rattle.step.specs.Machines.{program, rest, inPhase, holding, whether}
+use Rattle.step.specs.Locality.{every-program-is-local, asking-inv, giving-inv, taking-gives}
+use Rattle.step.specs.declared.Record.{Record}
+use Rattle.table.specs.Bodies.{Row, input, const, op, pick, for, arg, next, end, out, unknown}
+use Rattle.lowered.specs.Roles.{Role, sameRole, opNode, stream, gate, guard, copySplit, copyInvariant, carry, argSplit, Wire, start, output, Use, into, result}
+use Rattle.uses.specs.Machine.{Plan, State, giveBy, takeBy, nextBy, put, drop, listed, given, taken, viewOf, Among, Once, after, one, one-same, one-other, Ready, Steps, steps-append, stage-cover, those}
+use Rattle.faithful.specs.Table.{Table, Slot, val, inner, absent, named, IsFor, wireOf, born, since, slot, slotWire, src, isOp, isStart, isArg, Real, progOf, plan}
+use Rattle.faithful.specs.Good.{Inner, Used, Good, Source, wStart, wOp, wFor, wArg, wNxt, wInv, source, ForPort, fStream, fGuard, fSplit, fCarry, When, byOp, byFor, byEnd, byOut, when, Inward, nGate0, nGate1, nSplit, nInv0, nInv1, nCarry, nArg0, nArg1, inward}
+use Rattle.faithful.specs.Gamma.{Env, streamHeld, Live, Inside, Shows, scope, held, Gamma, shows-same, shows-none, shows-some, Rel, before, behind, inside, around, for-not-end, rel, head-row, since-head, since-in, since-own, held-same}
+use Rattle.faithful.specs.StepOp.{setTo, set-same, set-other, sight, runs-by, put-drop-none, body-quiet, real-body, recs-same, since-row, src-cases, token-at, Path, choose}
+
+abbrev pub keepIf : Bool → Option Effect → Option Effect
+keepIf true x = x
+keepIf false x = none
+
+pub eqb-yes : (u : ℕ) → eqb u u ≡ true
+eqb-yes u = go (eqb u u) refl
+  where
+    go : (b : Bool) → eqb u u ≡ b → eqb u u ≡ true
+    go true e = e
+    go false e = absurd (subst T e (eqb-refl u))
+
+pub eqb-no : (u w : ℕ) → u ≢ w → eqb u w ≡ false
+eqb-no u w n = go (eqb u w) refl
+  where
+    go : (b : Bool) → eqb u w ≡ b → eqb u w ≡ false
+    go true e = absurd (n (eqb→eq u w (subst T (sym e) tt)))
+    go false e = e
+
+pub is-eqb : (u w : ℕ) → eqb u w ≡ true → u ≡ w
+is-eqb u w h = eqb→eq u w (subst T (sym h) tt)
+
+and-l : (a b : Bool) → (a && b) ≡ true → a ≡ true
+and-l true b h = refl
+and-l false b h = h
+
+and-r : (a b : Bool) → (a && b) ≡ true → b ≡ true
+and-r true b h = h
+and-r false b h = let z : _≡_ {A = ℕ} 0 1 = cc in absurd (omega arith)
+
+and-no : (a b : Bool) → a ≡ false → (a && b) ≡ false
+and-no true b h = let z : _≡_ {A = ℕ} 0 1 = cc in absurd (omega arith)
+and-no false b h = refl
+
+module _ (tb : Table) where
+  -- the roles of loop L
+  abbrev pub inLoop : ℕ → Role → Bool
+  inLoop L (opNode r) = false
+  inLoop L (stream M) = eqb M L
+  inLoop L (gate M) = eqb M L
+  inLoop L (guard M) = eqb M L
+  inLoop L (copySplit M v) = eqb M L && tb .carried M v
+  inLoop L (copyInvariant M v) = eqb M L && tb .carried M v
+  inLoop L (carry a) = eqb (tb .loop a) L && isArg (tb .row a)
+  inLoop L (argSplit a) = eqb (tb .loop a) L && isArg (tb .row a)
+
+  unfoldable pub only : ℕ → (Role → Option Effect) → Role → Option Effect
+  only L eff n = keepIf (inLoop L n) (eff n)
+
+  pub only-yes : (L : ℕ) (eff : Role → Option Effect) (n : Role) → inLoop L n ≡ true → only L eff n ≡ eff n
+  unfolding only
+  only-yes L eff n h = rw h
+
+  pub only-no : (L : ℕ) (eff : Role → Option Effect) (n : Role) → inLoop L n ≡ false → only L eff n ≡ none
+  unfolding only
+  only-no L eff n h = rw h
+
+  pub only-some : (L : ℕ) (eff : Role → Option Effect) (n : Role) (e : Effect) → only L eff n ≡ some e → (inLoop L n ≡ true) × (eff n ≡ some e)
+  unfolding only
+  only-some L eff n e h = go (inLoop L n) refl h
+    where
+      go : (b : Bool) → inLoop L n ≡ b → keepIf b (eff n) ≡ some e → (inLoop L n ≡ true) × (eff n ≡ some e)
+      go true q k = (q, k)
+      go false q k = let z : _≡_ {A = ℕ} 0 1 = cc in absurd (omega arith)
+
+  pub arg-row : (a : ℕ) → isArg (tb .row a) ≡ true → (i : ℕ) × (tb .row a ≡ arg i)
+  arg-row a h = go (tb .row a) refl h
+    where
+      go : (d : Row) → tb .row a ≡ d → isArg d ≡ true → (i : ℕ) × (tb .row a ≡ arg i)
+      go input q k = let z : _≡_ {A = ℕ} 0 1 = cc in absurd (omega arith)
+      go (const x) q k = let z : _≡_ {A = ℕ} 0 1 = cc in absurd (omega arith)
+      go (op c x y) q k = let z : _≡_ {A = ℕ} 0 1 = cc in absurd (omega arith)
+      go (pick c x y) q k = let z : _≡_ {A = ℕ} 0 1 = cc in absurd (omega arith)
+      go (for s t b u c) q k = let z : _≡_ {A = ℕ} 0 1 = cc in absurd (omega arith)
+      go (arg i) q k = (i, q)
+      go (next x) q k = let z : _≡_ {A = ℕ} 0 1 = cc in absurd (omega arith)
+      go end q k = let z : _≡_ {A = ℕ} 0 1 = cc in absurd (omega arith)
+      go unknown q k = let z : _≡_ {A = ℕ} 0 1 = cc in absurd (omega arith)
+      go (out x) q k = let z : _≡_ {A = ℕ} 0 1 = cc in absurd (omega arith)
+
+  pub in-two : (L M v : ℕ) → (eqb M L && tb .carried M v) ≡ true → (M ≡ L) × (tb .carried M v ≡ true)
+  in-two L M v h = (is-eqb M L (and-l (eqb M L) (tb .carried M v) h), and-r (eqb M L) (tb .carried M v) h)
+
+  pub in-arg : (L a : ℕ) → (eqb (tb .loop a) L && isArg (tb .row a)) ≡ true → (tb .loop a ≡ L) × (isArg (tb .row a) ≡ true)
+  in-arg L a h = (is-eqb (tb .loop a) L (and-l (eqb (tb .loop a) L) (isArg (tb .row a)) h), and-r (eqb (tb .loop a) L) (isArg (tb .row a)) h)
+
+  pub two-in : (L v : ℕ) → tb .carried L v ≡ true → (eqb L L && tb .carried L v) ≡ true
+  two-in L v h = rw (eqb-yes L, h)
+
+  pub arg-in : (L a : ℕ) → tb .loop a ≡ L → isArg (tb .row a) ≡ true → (eqb (tb .loop a) L && isArg (tb .row a)) ≡ true
+  arg-in L a e h = rw (e, eqb-yes L, h)
+
+  pub two-out : (L M : ℕ) (b : Bool) → M ≢ L → (eqb M L && b) ≡ false
+  two-out L M b n = and-no (eqb M L) b (eqb-no M L n)
+
+  -- a list of them
+  abbrev pub argRoles : ℕ → ℕ → List Role
+  argRoles a zero = []
+  argRoles a (suc k) = carry a ∷ argSplit a ∷ argRoles (suc a) k
+
+  abbrev pub inRoles : ℕ → ℕ → ℕ → List Role
+  inRoles L v zero = []
+  inRoles L v (suc k) = copySplit L v ∷ copyInvariant L v ∷ inRoles L (suc v) k
+
+  unfoldable pub roles : ℕ → List Role
+  roles L = stream L ∷ gate L ∷ guard L ∷ (argRoles 0 (tb .first L) ++ inRoles L 0 L)
+
+  among-left : (n : Role) (xs ys : List Role) → Among n xs → Among n (xs ++ ys)
+  among-left n [] ys h = absurd h
+  among-left n (x ∷ xs) ys (inl h) = inl h
+  among-left n (x ∷ xs) ys (inr h) = inr (among-left n xs ys h)
+
+  among-right : (n : Role) (xs ys : List Role) → Among n ys → Among n (xs ++ ys)
+  among-right n [] ys h = h
+  among-right n (x ∷ xs) ys h = inr (among-right n xs ys h)
+
+  carry-there : (k a x : ℕ) → a ≤ x → x < a + k → Among (carry x) (argRoles a k)
+  carry-there zero a x p q = absurd (omega arith)
+  carry-there (suc k) a x p q = elim (ℕ-discrete x a) [ yes e ↦ inl (ap carry e) | no e ↦ inr (inr (carry-there k (suc a) x (omega arith) (omega arith))) ]
+
+  asplit-there : (k a x : ℕ) → a ≤ x → x < a + k → Among (argSplit x) (argRoles a k)
+  asplit-there zero a x p q = absurd (omega arith)
+  asplit-there (suc k) a x p q = elim (ℕ-discrete x a) [ yes e ↦ inr (inl (ap argSplit e)) | no e ↦ inr (inr (asplit-there k (suc a) x (omega arith) (omega arith))) ]
+
+  csplit-there : (L k v x : ℕ) → v ≤ x → x < v + k → Among (copySplit L x) (inRoles L v k)
+  csplit-there L zero v x p q = absurd (omega arith)
+  csplit-there L (suc k) v x p q = elim (ℕ-discrete x v) [ yes e ↦ inl (ap (copySplit L) e) | no e ↦ inr (inr (csplit-there L k (suc v) x (omega arith) (omega arith))) ]
+
+  inv-there : (L k v x : ℕ) → v ≤ x → x < v + k → Among (copyInvariant L x) (inRoles L v k)
+  inv-there L zero v x p q = absurd (omega arith)
+  inv-there L (suc k) v x p q = elim (ℕ-discrete x v) [ yes e ↦ inr (inl (ap (copyInvariant L) e)) | no e ↦ inr (inr (inv-there L k (suc v) x (omega arith) (omega arith))) ]
+
+module _ (tb : Table) (g : Good tb) (L : ℕ) (f : IsFor tb L) where
+  roles-all : (n : Role) → inLoop tb L n ≡ true → Among n (roles tb L)
+  unfolding roles
+  roles-all (opNode r) h = let z : _≡_ {A = ℕ} 0 1 = cc in absurd (omega arith)
+  roles-all (stream M) h = inl (ap stream (is-eqb M L h))
+  roles-all (gate M) h = inr (inl (ap gate (is-eqb M L h)))
+  roles-all (guard M) h = inr (inr (inl (ap guard (is-eqb M L h))))
+  roles-all (copySplit M v) h =
+      let q = in-two tb L M v h in
+      let b : v < M = g .in-before M v (q .1) in
+      let e : M ≡ L = q .0 in
+      inr (inr (inr (among-right tb (copySplit M v) (argRoles tb 0 (tb .first L)) (inRoles tb L 0 L)
+      (subst (λ (z : ℕ). Among (copySplit z v) (inRoles tb L 0 L)) (sym e) (csplit-there tb L L 0 v (omega arith) (omega arith))))))
+  roles-all (copyInvariant M v) h =
+      let q = in-two tb L M v h in
+      let b : v < M = g .in-before M v (q .1) in
+      let e : M ≡ L = q .0 in
+      inr (inr (inr (among-right tb (copyInvariant M v) (argRoles tb 0 (tb .first L)) (inRoles tb L 0 L)
+      (subst (λ (z : ℕ). Among (copyInvariant z v) (inRoles tb L 0 L)) (sym e) (inv-there tb L L 0 v (omega arith) (omega arith))))))
+  roles-all (carry a) h =
+      let q = in-arg tb L a h in
+      let r = arg-row tb a (q .1) in
+      let b : a < tb .first L = subst (λ (z : ℕ). a < tb .first z) (q .0) (g .arg-high a (r .0) (r .1)) in
+      inr (inr (inr (among-left tb (carry a) (argRoles tb 0 (tb .first L)) (inRoles tb L 0 L) (carry-there tb (tb .first L) 0 a (omega arith) (omega arith)))))
+  roles-all (argSplit a) h =
+      let q = in-arg tb L a h in
+      let r = arg-row tb a (q .1) in
+      let b : a < tb .first L = subst (λ (z : ℕ). a < tb .first z) (q .0) (g .arg-high a (r .0) (r .1)) in
+      inr (inr (inr (among-left tb (argSplit a) (argRoles tb 0 (tb .first L)) (inRoles tb L 0 L) (asplit-there tb (tb .first L) 0 a (omega arith) (omega arith)))))
+
+  -- A STAGE of the loop's nodes
+  pub loop-stage : (eff : Role → Option Effect) (s : State)
+      → ((n : Role) (e : Effect) → inLoop tb L n ≡ true → eff n ≡ some e → Ready (plan tb) n e s)
+      → (xs : List Role) × Steps (plan tb) xs s (after (plan tb) (only tb L eff) s)
+  loop-stage eff s r = (
+    those (plan tb) (only tb L eff) (roles tb L),
+    stage-cover (plan tb) (roles tb L) (only tb L eff) s
+        (λ n e h. roles-all n (only-some tb L eff n e h .0)) (λ n e h. let q = only-some tb L eff n e h in r n e (q .0) (q .1)),
+  )
+
+  pub for-below : L < tb .size
+  for-below = let a = g .for-size L f in let b = g .for-first L f in let c = g .for-last L f in omega arith
+
+  pub reads-not : tb .reads L ≢ L
+  reads-not e = let i = subst (λ (z : ℕ). Inner tb z L) e (g .for-reads L f) in let a = i .low in let b = g .for-first L f in omega arith
+
+  pub is-in-stream : inLoop tb L (stream L) ≡ true
+  is-in-stream = eqb-yes L
+
+  -- ---- what the loop gives on the wire of v in B
+  pub data Fill (v B : ℕ) : Type 0 where
+    fIdx : v ≡ L → B ≡ L → since tb v B ≡ 0 → ((eff : Role → Option Effect) → given (only tb L eff) (some (wireOf tb v B)) ≡ giveBy (eff (gate L)) out0) → Fill v B
+    fArg : (i : ℕ) → tb .row v ≡ arg i → tb .loop v ≡ L → B ≡ L → since tb v B ≡ 0
+        → ((eff : Role → Option Effect) → given (only tb L eff) (some (wireOf tb v B)) ≡ giveBy (eff (argSplit v)) out0) → Fill v B
+    fInv : tb .carried L v ≡ true → B ≡ L → since tb v B ≡ 0 → ((eff : Role → Option Effect) → given (only tb L eff) (some (wireOf tb v B)) ≡ giveBy (eff (copyInvariant L v)) out0) → Fill v B
+    fExit : (x : ℕ) → tb .row v ≡ next x → tb .loop v ≡ L → B ≡ tb .reads L → tb .home v ≡ B → since tb v B ≡ suc (tb .last L)
+        → ((eff : Role → Option Effect) → given (only tb L eff) (some (wireOf tb v B)) ≡ giveBy (eff (argSplit (tb .argOf v))) out1) → Fill v B
+    fNone : (B ≡ L → since tb v B ≢ 0) → ((x : ℕ) → tb .row v ≡ next x → tb .loop v ≡ L → tb .home v ≡ B → ⊥)
+        → ((eff : Role → Option Effect) → given (only tb L eff) (some (wireOf tb v B)) ≡ none) → Fill v B
+
+  gives-yes : (v B : ℕ) (n : Role) (o : Output) → wireOf tb v B ≡ output n o → inLoop tb L n ≡ true → (eff : Role → Option Effect) → given (only tb L eff) (some (wireOf tb v B)) ≡ giveBy (eff n) o
+  gives-yes v B n o e h eff = ap (λ (z : Wire). given (only tb L eff) (some z)) e ∙ ap (λ (z : Option Effect). giveBy z o) (only-yes tb L eff n h)
+
+  gives-no : (v B : ℕ) (n : Role) (o : Output) → wireOf tb v B ≡ output n o → inLoop tb L n ≡ false → (eff : Role → Option Effect) → given (only tb L eff) (some (wireOf tb v B)) ≡ none
+  gives-no v B n o e h eff = ap (λ (z : Wire). given (only tb L eff) (some z)) e ∙ ap (λ (z : Option Effect). giveBy z o) (only-no tb L eff n h)
+
+  pub fill : (v B : ℕ) → (tb .home v ≢ B → tb .carried B v ≡ true) → Fill v B
+  fill v B away = go (source tb v B)
+    where
+      go : Source tb v B → Fill v B
+      go (wStart w h t z) =
+          fNone (λ e _. let k = g .start-home v t in let l = for-below in omega arith) (λ x q _ _. let z : _≡_ {A = ℕ} 0 1 = cc in omega arith)
+          (λ eff. ap (λ (z : Wire). given (only tb L eff) (some z)) w)
+      go (wOp w h t z) = fNone (λ e. omega arith) (λ x q _ _. let z : _≡_ {A = ℕ} 0 1 = cc in omega arith) (gives-no v B (opNode v) out0 w refl)
+      go (wFor w h t z) =
+          elim (ℕ-discrete v L) [
+            | yes e ↦ fIdx e (sym h ∙ ap (tb .home) e ∙ g .for-home L f) z (λ eff. gives-yes v B (gate v) out0 w (ap (λ (y : ℕ). eqb y L) e ∙ eqb-yes L) eff ∙ ap (λ (y : ℕ). giveBy (eff (gate y)) out0) e)
+            | no e ↦ fNone (λ d _. e (sym (g .for-home v t) ∙ h ∙ d)) (λ x q _ _. let k = t .5 in let z : _≡_ {A = ℕ} 0 1 = cc in omega arith) (gives-no v B (gate v) out0 w (eqb-no v L e))
+          ]
+      go (wArg i w h q z) =
+          elim (ℕ-discrete (tb .loop v) L) [
+            | yes e ↦ fArg i q e (sym h ∙ g .arg-home v i q ∙ e) z (gives-yes v B (argSplit v) out0 w (arg-in tb L v e (ap isArg q)))
+            | no e ↦ fNone (λ d _. e (sym (g .arg-home v i q) ∙ h ∙ d)) (λ x k _ _. let z : _≡_ {A = ℕ} 0 1 = cc in omega arith) (gives-no v B (argSplit v) out0 w (two-out tb L (tb .loop v) (isArg (tb .row v)) e))
+          ]
+      go (wNxt x w h q z) =
+          elim (ℕ-discrete (tb .loop v) L) [
+            | yes e ↦ fExit x q e (sym h ∙ g .nxt-home v x q ∙ ap (tb .reads) e) h (z ∙ ap (λ (y : ℕ). suc (tb .last y)) e)
+                (gives-yes v B (argSplit (tb .argOf v)) out1 w (arg-in tb L (tb .argOf v) (g .nxt-arg-loop v x q ∙ e) (ap isArg (g .nxt-arg v x q .1))))
+            | no e ↦ fNone (λ d. omega arith) (λ y k l _. e l)
+                (gives-no v B (argSplit (tb .argOf v)) out1 w (two-out tb L (tb .loop (tb .argOf v)) (isArg (tb .row (tb .argOf v))) (λ l. e (sym (g .nxt-arg-loop v x q) ∙ l))))
+          ]
+      go (wInv w h z) =
+          elim (ℕ-discrete B L) [
+            | yes e ↦
+                let c : tb .carried L v ≡ true = subst (λ (y : ℕ). tb .carried y v ≡ true) e (away h) in
+                fInv c e z (λ eff. gives-yes v B (copyInvariant B v) out0 w (ap₂ (λ (a b : ℕ). eqb a L && tb .carried b v) e e ∙ two-in tb L v c) eff ∙ ap (λ (y : ℕ). giveBy (eff (copyInvariant y v)) out0) e)
+            | no e ↦ fNone (λ d _. e d) (λ x q l d. h d) (gives-no v B (copyInvariant B v) out0 w (two-out tb L B (tb .carried B v) e))
+          ]
+
+  -- ---- what the loop takes from a port
+  pub data Taking (p : Use) (B c : ℕ) : Type 0 where
+    tFor : ForPort tb p L → c ≡ L → B ≡ tb .reads L → Taking p B c
+    tEnd : (a i : ℕ) → p ≡ into (carry a) in2 → tb .row a ≡ arg i → tb .loop a ≡ L → c ≡ tb .last L → B ≡ L → Taking p B c
+    tNone : c ≢ L → c ≢ tb .last L → ((eff : Role → Option Effect) → taken (only tb L eff) p ≡ false) → Taking p B c
+
+  pub takes-yes : (p : Use) (n : Role) (k : Input) → p ≡ into n k → inLoop tb L n ≡ true → (eff : Role → Option Effect) → taken (only tb L eff) p ≡ takeBy (eff n) k
+  takes-yes p n k e h eff = ap (taken (only tb L eff)) e ∙ ap (λ (z : Option Effect). takeBy z k) (only-yes tb L eff n h)
+
+  pub takes-no : (p : Use) (n : Role) (k : Input) → p ≡ into n k → inLoop tb L n ≡ false → (eff : Role → Option Effect) → taken (only tb L eff) p ≡ false
+  takes-no p n k e h eff = ap (taken (only tb L eff)) e ∙ ap (λ (z : Option Effect). takeBy z k) (only-no tb L eff n h)
+
+  pub taking : (p : Use) (v B c : ℕ) → slot tb p ≡ val v B c → Taking p B c
+  taking p v B c q = go (when tb g p v B c q)
+    where
+      last-not : IsFor tb c → c ≢ tb .last L
+      last-not h = for-not-end tb g c (tb .last L) h (g .for-end L f)
+
+      other : IsFor tb c → c ≢ L → ForPort tb p c → Taking p B c
+      other h n (fStream k e) = tNone n (last-not h) (takes-no p (stream c) k e (eqb-no c L n))
+      other h n (fGuard k e) = tNone n (last-not h) (takes-no p (guard c) k e (eqb-no c L n))
+      other h n (fSplit x e d) = tNone n (last-not h) (takes-no p (copySplit c x) in1 e (two-out tb L c (tb .carried c x) n))
+      other h n (fCarry a i e d l) = tNone n (last-not h) (takes-no p (carry a) in1 e (two-out tb L (tb .loop a) (isArg (tb .row a)) (λ y. n (sym l ∙ y))))
+
+      go : When tb p v B c → Taking p B c
+      go (byOp k e h) =
+          tNone (λ y. let r = f .5 in let h′ : isOp tb (tb .row L) ≡ true = subst (λ (z : ℕ). isOp tb (tb .row z) ≡ true) y h in let z : _≡_ {A = ℕ} 0 1 = cc in omega arith)
+          (λ y. let r = g .for-end L f in let h′ : isOp tb (tb .row (tb .last L)) ≡ true = subst (λ (z : ℕ). isOp tb (tb .row z) ≡ true) y h in let z : _≡_ {A = ℕ} 0 1 = cc in omega arith)
+          (takes-no p (opNode c) k e refl)
+      go (byFor h w b) = elim (ℕ-discrete c L) [ yes y ↦ tFor (subst (ForPort tb p) y w) y (b ∙ ap (tb .reads) y) | no y ↦ other h y w ]
+      go (byEnd a i e h l b _) =
+          elim (ℕ-discrete (tb .loop a) L) [
+            | yes y ↦ tEnd a i e h y (l ∙ ap (tb .last) y) (b ∙ y)
+            | no y ↦ tNone (λ d. for-not-end tb g L (tb .last (tb .loop a)) f (g .for-end (tb .loop a) (g .arg-for a i h)) (sym d ∙ l))
+                (λ d. y (sym (g .end-loop (tb .loop a) (g .arg-for a i h)) ∙ ap (tb .loop) (sym l ∙ d) ∙ g .end-loop L f))
+                (takes-no p (carry a) in2 e (two-out tb L (tb .loop a) (isArg (tb .row a)) y))
+          ]
+      go (byOut x e l b) = tNone (let a = for-below in omega arith) (let a = g .for-size L f in omega arith) (λ eff. ap (taken (only tb L eff)) e)

@@ -1,0 +1,339 @@
+-- Three stages of one loop's nodes, from tables of effects by role.
+-- Assumes nothing.
+use mathlib.Core.Path.{_≡_, refl, sym, ap, ap₂, _∙_, subst, subst₂}
+use mathlib.Core.Logic.{_≢_, _⊎_, inl, inr}
+use mathlib.Core.Bool.{Bool, true, false}
+use mathlib.Core.Option.{Option, none, some}
+use mathlib.Core.List.{List, [], _∷_, _++_}
+use Prim.Native.Nat.{ℕ, zero, suc, _+_, _*_, _≤_, _<_}
+use native.Mathlib.Omega.{arith}
+use native.Mathlib.Decide.{ℕ-discrete, decLe}
+use lib.Dec.{T, eqb, eqb→eq, eqb-refl}
+use mir.Facts.{yes-eqb}
+use mathlib.Core.Bool.{_&&_}
+use mathlib.Core.List.{append-assoc, append-nil}
+use Rattle.word.specs.Words.{condition, update, operate}
+use Rattle.step.specs.Kinds.{Input, in0, in1, in2, Output, out0, out1, STREAM, GATE, CARRY, INVARIANT, SPLIT, OP, PICK}
+use Rattle.step.specs.Firing.{View, Effect, Program, stop, give, ask, perform, gives, takes, waits, room, fillable}
+use Rattle.step.specs.Machines.{program, rest, inPhase, holding, whether}
+use Rattle.step.specs.Locality.{every-program-is-local, asking-inv, giving-inv, taking-gives}
+use Rattle.step.specs.declared.Record.{Record}
+use Rattle.table.specs.Bodies.{Row, input, const, op, pick, for, arg, next, end, out, unknown}
+use Rattle.lowered.specs.Roles.{Role, sameRole, opNode, stream, gate, guard, copySplit, copyInvariant, carry, argSplit, Wire, start, output, Use, into, result}
+use Rattle.uses.specs.Machine.{Plan, State, giveBy, takeBy, nextBy, put, drop, listed, given, taken, viewOf, Among, Once, after, one, one-same, one-other, Ready, Steps, steps-append, stage-cover, those}
+use Rattle.faithful.specs.Table.{Table, Slot, val, inner, absent, named, IsFor, wireOf, born, since, slot, slotWire, src, isOp, isStart, isArg, Real, progOf, plan}
+use Rattle.faithful.specs.Good.{Inner, Used, Good, Source, wStart, wOp, wFor, wArg, wNxt, wInv, source, ForPort, fStream, fGuard, fSplit, fCarry, When, byOp, byFor, byEnd, byOut, when, Inward, nGate0, nGate1, nSplit, nInv0, nInv1, nCarry, nArg0, nArg1, inward}
+use Rattle.faithful.specs.Gamma.{Env, streamHeld, Live, Inside, Shows, scope, held, Gamma, shows-same, shows-none, shows-some, Rel, before, behind, inside, around, for-not-end, rel, head-row, since-head, since-in, since-own, held-same}
+use Rattle.faithful.specs.StepOp.{setTo, set-same, set-other, sight, runs-by, put-drop-none, body-quiet, real-body, recs-same, since-row, src-cases, token-at, Path, choose}
+use Rattle.faithful.specs.Loop.{inLoop, only, only-yes, only-no, only-some, arg-row, in-two, in-arg, two-in, arg-in, two-out, eqb-yes, eqb-no, is-eqb, loop-stage, for-below, reads-not, Fill, fIdx, fArg, fInv, fExit, fNone, fill, Taking, tFor, tEnd, tNone, takes-yes, takes-no, taking}
+
+abbrev pub sayIf : Bool → List ℕ → List ℕ
+sayIf true l = l
+sayIf false l = []
+
+abbrev pub Table3 : Type 0
+Table3 = Role → Option Effect
+
+-- the inner links of a loop
+pub data Eight : Type 0 where
+  gate0 gate1 : Eight
+  split0 inv0 inv1 : ℕ → Eight
+  carry0 arg0 arg1 : ℕ → Eight
+
+abbrev pub node8 : ℕ → Eight → Role
+node8 L gate0 = gate L
+node8 L gate1 = gate L
+node8 L (split0 v) = copySplit L v
+node8 L (inv0 v) = copyInvariant L v
+node8 L (inv1 v) = copyInvariant L v
+node8 L (carry0 a) = carry a
+node8 L (arg0 a) = argSplit a
+node8 L (arg1 a) = argSplit a
+
+abbrev pub in8 : Eight → Input
+in8 gate0 = in0
+in8 gate1 = in1
+in8 (split0 v) = in0
+in8 (inv0 v) = in0
+in8 (inv1 v) = in1
+in8 (carry0 a) = in0
+in8 (arg0 a) = in0
+in8 (arg1 a) = in1
+
+abbrev pub from8 : ℕ → Eight → Role
+from8 L gate0 = stream L
+from8 L gate1 = stream L
+from8 L (split0 v) = guard L
+from8 L (inv0 v) = gate L
+from8 L (inv1 v) = copySplit L v
+from8 L (carry0 a) = stream L
+from8 L (arg0 a) = stream L
+from8 L (arg1 a) = carry a
+
+abbrev pub out8 : Eight → Output
+out8 gate0 = out0
+out8 gate1 = out1
+out8 (split0 v) = out0
+out8 (inv0 v) = out1
+out8 (inv1 v) = out0
+out8 (carry0 a) = out1
+out8 (arg0 a) = out1
+out8 (arg1 a) = out0
+
+module _ (tb : Table) (g : Good tb) (L : ℕ) (f : IsFor tb L) where
+  abbrev pub mem8 : Eight → Type 0
+  mem8 gate0 = Unit {0}
+  mem8 gate1 = Unit {0}
+  mem8 (split0 v) = tb .carried L v ≡ true
+  mem8 (inv0 v) = tb .carried L v ≡ true
+  mem8 (inv1 v) = tb .carried L v ≡ true
+  mem8 (carry0 a) = (tb .loop a ≡ L) × (isArg (tb .row a) ≡ true)
+  mem8 (arg0 a) = (tb .loop a ≡ L) × (isArg (tb .row a) ≡ true)
+  mem8 (arg1 a) = (tb .loop a ≡ L) × (isArg (tb .row a) ≡ true)
+
+  node-in : (x : Eight) → mem8 x → inLoop tb L (node8 L x) ≡ true
+  node-in gate0 m = eqb-yes L
+  node-in gate1 m = eqb-yes L
+  node-in (split0 v) m = two-in tb L v m
+  node-in (inv0 v) m = two-in tb L v m
+  node-in (inv1 v) m = two-in tb L v m
+  node-in (carry0 a) m = arg-in tb L a (m .0) (m .1)
+  node-in (arg0 a) m = arg-in tb L a (m .0) (m .1)
+  node-in (arg1 a) m = arg-in tb L a (m .0) (m .1)
+
+  from-in : (x : Eight) → mem8 x → inLoop tb L (from8 L x) ≡ true
+  from-in gate0 m = eqb-yes L
+  from-in gate1 m = eqb-yes L
+  from-in (split0 v) m = eqb-yes L
+  from-in (inv0 v) m = eqb-yes L
+  from-in (inv1 v) m = two-in tb L v m
+  from-in (carry0 a) m = eqb-yes L
+  from-in (arg0 a) m = eqb-yes L
+  from-in (arg1 a) m = arg-in tb L a (m .0) (m .1)
+
+  pub slot8 : (x : Eight) → mem8 x → slot tb (into (node8 L x) (in8 x)) ≡ inner (output (from8 L x) (out8 x))
+  slot8 gate0 m = rw (f .5)
+  slot8 gate1 m = rw (f .5)
+  slot8 (split0 v) m = rw m
+  slot8 (inv0 v) m = rw m
+  slot8 (inv1 v) m = rw m
+  slot8 (carry0 a) m = let r = arg-row tb a (m .1) in rw (r .1, m .0)
+  slot8 (arg0 a) m = rw (m .1, m .0)
+  slot8 (arg1 a) m = rw (m .1)
+
+  -- an inner port is a link of this loop, or the loop does not touch it
+  pub data Link (p : Use) (w : Wire) : Type 0 where
+    linked : (x : Eight) → mem8 x → p ≡ into (node8 L x) (in8 x) → w ≡ output (from8 L x) (out8 x) → Link p w
+    unlinked : ((eff : Table3) → given (only tb L eff) (some w) ≡ none) → ((eff : Table3) → taken (only tb L eff) p ≡ false) → Link p w
+
+  un : (p : Use) (w : Wire) (n m : Role) (k : Input) (o : Output) → p ≡ into n k → w ≡ output m o → inLoop tb L n ≡ false → inLoop tb L m ≡ false → Link p w
+  un p w n m k o a b c d =
+      unlinked (λ eff. ap (λ (z : Wire). given (only tb L eff) (some z)) b ∙ ap (λ (z : Option Effect). giveBy z o) (only-no tb L eff m d))
+      (takes-no tb g L f p n k a c)
+
+  pub link : (p : Use) (w : Wire) → slot tb p ≡ inner w → Link p w
+  link p w q = go (inward tb p w q)
+    where
+      go : Inward tb p w → Link p w
+      go (nGate0 M a b fr) =
+          elim (ℕ-discrete M L) [
+            | yes e ↦ linked gate0 tt (a ∙ ap (λ (z : ℕ). into (gate z) in0) e) (b ∙ ap (λ (z : ℕ). output (stream z) out0) e)
+            | no e ↦ un p w (gate M) (stream M) in0 out0 a b (eqb-no M L e) (eqb-no M L e)
+          ]
+      go (nGate1 M a b fr) =
+          elim (ℕ-discrete M L) [
+            | yes e ↦ linked gate1 tt (a ∙ ap (λ (z : ℕ). into (gate z) in1) e) (b ∙ ap (λ (z : ℕ). output (stream z) out1) e)
+            | no e ↦ un p w (gate M) (stream M) in1 out1 a b (eqb-no M L e) (eqb-no M L e)
+          ]
+      go (nSplit M v a b c) =
+          elim (ℕ-discrete M L) [
+            | yes e ↦ linked (split0 v) (subst (λ (z : ℕ). tb .carried z v ≡ true) e c) (a ∙ ap (λ (z : ℕ). into (copySplit z v) in0) e) (b ∙ ap (λ (z : ℕ). output (guard z) out0) e)
+            | no e ↦ un p w (copySplit M v) (guard M) in0 out0 a b (two-out tb L M (tb .carried M v) e) (eqb-no M L e)
+          ]
+      go (nInv0 M v a b c) =
+          elim (ℕ-discrete M L) [
+            | yes e ↦ linked (inv0 v) (subst (λ (z : ℕ). tb .carried z v ≡ true) e c) (a ∙ ap (λ (z : ℕ). into (copyInvariant z v) in0) e) (b ∙ ap (λ (z : ℕ). output (gate z) out1) e)
+            | no e ↦ un p w (copyInvariant M v) (gate M) in0 out1 a b (two-out tb L M (tb .carried M v) e) (eqb-no M L e)
+          ]
+      go (nInv1 M v a b c) =
+          elim (ℕ-discrete M L) [
+            | yes e ↦ linked (inv1 v) (subst (λ (z : ℕ). tb .carried z v ≡ true) e c) (a ∙ ap (λ (z : ℕ). into (copyInvariant z v) in1) e) (b ∙ ap (λ (z : ℕ). output (copySplit z v) out0) e)
+            | no e ↦ un p w (copyInvariant M v) (copySplit M v) in1 out0 a b (two-out tb L M (tb .carried M v) e) (two-out tb L M (tb .carried M v) e)
+          ]
+      go (nCarry x i a b c) =
+          elim (ℕ-discrete (tb .loop x) L) [
+            | yes e ↦ linked (carry0 x) (e, ap isArg c) a (b ∙ ap (λ (z : ℕ). output (stream z) out1) e)
+            | no e ↦ un p w (carry x) (stream (tb .loop x)) in0 out1 a b (two-out tb L (tb .loop x) (isArg (tb .row x)) e) (eqb-no (tb .loop x) L e)
+          ]
+      go (nArg0 x a b c) =
+          elim (ℕ-discrete (tb .loop x) L) [
+            | yes e ↦ linked (arg0 x) (e, c) a (b ∙ ap (λ (z : ℕ). output (stream z) out1) e)
+            | no e ↦ un p w (argSplit x) (stream (tb .loop x)) in0 out1 a b (two-out tb L (tb .loop x) (isArg (tb .row x)) e) (eqb-no (tb .loop x) L e)
+          ]
+      go (nArg1 x a b c) =
+          elim (ℕ-discrete (tb .loop x) L) [
+            | yes e ↦ linked (arg1 x) (e, c) a b
+            | no e ↦ un p w (argSplit x) (carry x) in1 out0 a b (two-out tb L (tb .loop x) (isArg (tb .row x)) e) (two-out tb L (tb .loop x) (isArg (tb .row x)) e)
+          ]
+
+  -- one stage at an inner port, at a value's port, at a record
+  abbrev pub flow : Table3 → Eight → Option ℕ → Option ℕ
+  flow e x t = put (giveBy (e (from8 L x)) (out8 x)) (drop (takeBy (e (node8 L x)) (in8 x)) t)
+
+  pub tok8 : (e : Table3) (s : State) (x : Eight) → mem8 x → (t : Option ℕ) → s .tok (into (node8 L x) (in8 x)) ≡ t
+      → after (plan tb) (only tb L e) s .tok (into (node8 L x) (in8 x)) ≡ flow e x t
+  tok8 e s x m t q =
+      ap (λ (z : Slot). put (given (only tb L e) (slotWire tb z)) (drop (taken (only tb L e) (into (node8 L x) (in8 x))) (s .tok (into (node8 L x) (in8 x))))) (slot8 x m)
+      ∙ ap₂ (λ (a b : Option Effect). put (giveBy a (out8 x)) (drop (takeBy b (in8 x)) (s .tok (into (node8 L x) (in8 x))))) (only-yes tb L e (from8 L x) (from-in x m)) (only-yes tb L e (node8 L x) (node-in x m))
+      ∙ ap (flow e x) q
+
+  pub tok-un : (e : Table3) (s : State) (p : Use) (w : Wire) → slot tb p ≡ inner w → given (only tb L e) (some w) ≡ none → taken (only tb L e) p ≡ false
+      → s .tok p ≡ none → after (plan tb) (only tb L e) s .tok p ≡ none
+  tok-un e s p w q a b c =
+      ap (λ (z : Slot). put (given (only tb L e) (slotWire tb z)) (drop (taken (only tb L e) p) (s .tok p))) q ∙ put-drop-none (given (only tb L e) (some w)) (taken (only tb L e) p) (s .tok p) a c
+
+  pub tokv : (e : Table3) (s : State) (p : Use) (v B c : ℕ) → slot tb p ≡ val v B c
+      → after (plan tb) (only tb L e) s .tok p ≡ put (given (only tb L e) (some (wireOf tb v B))) (drop (taken (only tb L e) p) (s .tok p))
+  tokv e s p v B c q = ap (λ (z : Slot). put (given (only tb L e) (slotWire tb z)) (drop (taken (only tb L e) p) (s .tok p))) q
+
+  pub own-in : (e : Table3) (s : State) (n : Role) → inLoop tb L n ≡ true → after (plan tb) (only tb L e) s .own n ≡ nextBy (e n) (s .own n)
+  own-in e s n h = ap (λ (z : Option Effect). nextBy z (s .own n)) (only-yes tb L e n h)
+
+  pub own-out : (e : Table3) (s : State) (n : Role) → inLoop tb L n ≡ false → after (plan tb) (only tb L e) s .own n ≡ s .own n
+  own-out e s n h = ap (λ (z : Option Effect). nextBy z (s .own n)) (only-no tb L e n h)
+
+  -- what holds for the roles of L, as they are named
+  pub by-role : (P : Role → Type 0) → P (stream L) → P (gate L) → P (guard L) → ((v : ℕ) → tb .carried L v ≡ true → P (copySplit L v)) → ((v : ℕ) → tb .carried L v ≡ true → P (copyInvariant L v))
+      → ((a i : ℕ) → tb .row a ≡ arg i → tb .loop a ≡ L → P (carry a)) → ((a i : ℕ) → tb .row a ≡ arg i → tb .loop a ≡ L → P (argSplit a))
+      → (n : Role) → inLoop tb L n ≡ true → P n
+  by-role P h1 h2 h3 h4 h5 h6 h7 (opNode r) h = let z : _≡_ {A = ℕ} 0 1 = cc in absurd (omega arith)
+  by-role P h1 h2 h3 h4 h5 h6 h7 (stream M) h = subst (λ (z : ℕ). P (stream z)) (sym (is-eqb M L h)) h1
+  by-role P h1 h2 h3 h4 h5 h6 h7 (gate M) h = subst (λ (z : ℕ). P (gate z)) (sym (is-eqb M L h)) h2
+  by-role P h1 h2 h3 h4 h5 h6 h7 (guard M) h = subst (λ (z : ℕ). P (guard z)) (sym (is-eqb M L h)) h3
+  by-role P h1 h2 h3 h4 h5 h6 h7 (copySplit M v) h = let q = in-two tb L M v h in subst (λ (z : ℕ). P (copySplit z v)) (sym (q .0)) (h4 v (subst (λ (z : ℕ). tb .carried z v ≡ true) (q .0) (q .1)))
+  by-role P h1 h2 h3 h4 h5 h6 h7 (copyInvariant M v) h = let q = in-two tb L M v h in subst (λ (z : ℕ). P (copyInvariant z v)) (sym (q .0)) (h5 v (subst (λ (z : ℕ). tb .carried z v ≡ true) (q .0) (q .1)))
+  by-role P h1 h2 h3 h4 h5 h6 h7 (carry a) h = let q = in-arg tb L a h in let r = arg-row tb a (q .1) in h6 a (r .0) (r .1) (q .0)
+  by-role P h1 h2 h3 h4 h5 h6 h7 (argSplit a) h = let q = in-arg tb L a h in let r = arg-row tb a (q .1) in h7 a (r .0) (r .1) (q .0)
+
+  pub real-in : (n : Role) → inLoop tb L n ≡ true → Real tb n
+  real-in = by-role (Real tb) f f f (λ v h. (f, h)) (λ v h. (f, h)) (λ a i h _. (i, h)) (λ a i h _. (i, h))
+
+  -- readiness of a stage, from the tokens where it starts
+  pub ready-all : (e : Table3) (s : State)
+      → ((n : Role) (d : Effect) → inLoop tb L n ≡ true → e n ≡ some d → perform (progOf tb n (s .own n)) (viewOf s n) ≡ some d)
+      → ((p : Use) (w : Wire) (y : ℕ) → slot tb p ≡ inner w → given (only tb L e) (some w) ≡ some y → s .tok p ≡ none)
+      → ((p : Use) (v B c y : ℕ) → slot tb p ≡ val v B c → given (only tb L e) (some (wireOf tb v B)) ≡ some y → s .tok p ≡ none)
+      → (n : Role) (d : Effect) → inLoop tb L n ≡ true → e n ≡ some d → Ready (plan tb) n d s
+  ready-all e s r a b n d h q =
+      record {
+        real = real-in n h;
+        runs = r n d h q;
+        room = λ p o y k z. go p o y k z;
+      }
+    where
+      gv : (o : Output) (y : ℕ) → gives d o ≡ some y → given (only tb L e) (some (output n o)) ≡ some y
+      gv o y z = ap (λ (x : Option Effect). giveBy x o) (only-yes tb L e n h ∙ q) ∙ z
+
+      go : (p : Use) (o : Output) (y : ℕ) → src tb p ≡ some (output n o) → gives d o ≡ some y → s .tok p ≡ none
+      go p o y k z =
+          elim (src-cases tb g p (output n o) k) [
+            | inl x ↦ b p (x .0) (x .1) (x .2) y (x .3) (ap (λ (w : Wire). given (only tb L e) (some w)) (x .4) ∙ gv o y z)
+            | inr x ↦ a p (output n o) y x (gv o y z)
+          ]
+
+  -- a role of the loop does nothing at this stage, or its program does what the table says
+  abbrev pub Runs : Table3 → State → Role → Type 0
+  Runs e s n = (e n ≡ none) ⊎ (perform (progOf tb n (s .own n)) (viewOf s n) ≡ e n)
+
+  pub to-runs : (e : Table3) (s : State) → ((n : Role) → inLoop tb L n ≡ true → Runs e s n)
+      → (n : Role) (d : Effect) → inLoop tb L n ≡ true → e n ≡ some d → perform (progOf tb n (s .own n)) (viewOf s n) ≡ some d
+  to-runs e s h n d m q = go (h n m)
+    where
+      go : Runs e s n → perform (progOf tb n (s .own n)) (viewOf s n) ≡ some d
+      go (inl z) = let z : _≡_ {A = ℕ} 0 1 = cc in absurd (omega arith)
+      go (inr z) = z ∙ q
+
+  -- ---- three stages
+  module _ (e1 e2 e3 : Table3) (s : State) (empty : (p : Use) (w : Wire) → slot tb p ≡ inner w → s .tok p ≡ none) where
+    abbrev pub S1 : State
+    S1 = after (plan tb) (only tb L e1) s
+
+    abbrev pub S2 : State
+    S2 = after (plan tb) (only tb L e2) S1
+
+    abbrev pub S3 : State
+    S3 = after (plan tb) (only tb L e3) S2
+
+    pub at1 : (x : Eight) → mem8 x → S1 .tok (into (node8 L x) (in8 x)) ≡ flow e1 x none
+    at1 x m = tok8 e1 s x m none (empty (into (node8 L x) (in8 x)) (output (from8 L x) (out8 x)) (slot8 x m))
+
+    pub at2 : (x : Eight) → mem8 x → S2 .tok (into (node8 L x) (in8 x)) ≡ flow e2 x (flow e1 x none)
+    at2 x m = tok8 e2 S1 x m (flow e1 x none) (at1 x m)
+
+    pub at3 : (x : Eight) → mem8 x → S3 .tok (into (node8 L x) (in8 x)) ≡ flow e3 x (flow e2 x (flow e1 x none))
+    at3 x m = tok8 e3 S2 x m (flow e2 x (flow e1 x none)) (at2 x m)
+
+    -- inner ports are empty again
+    pub inner3 : ((x : Eight) → flow e3 x (flow e2 x (flow e1 x none)) ≡ none) → (p : Use) (w : Wire) → slot tb p ≡ inner w → S3 .tok p ≡ none
+    inner3 h p w q = go (link p w q)
+      where
+        go : Link p w → S3 .tok p ≡ none
+        go (linked x m a b) = ap (S3 .tok) a ∙ at3 x m ∙ h x
+        go (unlinked a b) = tok-un e3 S2 p w q (a e3) (b e3) (tok-un e2 S1 p w q (a e2) (b e2) (tok-un e1 s p w q (a e1) (b e1) (empty p w q)))
+
+    -- inner ports have room
+    room8 : (e : Table3) (x : Eight) → mem8 x → (w : Wire) (y : ℕ) → w ≡ output (from8 L x) (out8 x) → given (only tb L e) (some w) ≡ some y → giveBy (e (from8 L x)) (out8 x) ≡ some y
+    room8 e x m w y b k = ap (λ (z : Option Effect). giveBy z (out8 x)) (sym (only-yes tb L e (from8 L x) (from-in x m))) ∙ ap (λ (z : Wire). given (only tb L e) (some z)) (sym b) ∙ k
+
+    pub room2 : ((x : Eight) (y : ℕ) → giveBy (e2 (from8 L x)) (out8 x) ≡ some y → flow e1 x none ≡ none)
+        → (p : Use) (w : Wire) (y : ℕ) → slot tb p ≡ inner w → given (only tb L e2) (some w) ≡ some y → S1 .tok p ≡ none
+    room2 h p w y q k = go (link p w q)
+      where
+        go : Link p w → S1 .tok p ≡ none
+        go (linked x m a b) = ap (S1 .tok) a ∙ at1 x m ∙ h x y (room8 e2 x m w y b k)
+        go (unlinked a b) = tok-un e1 s p w q (a e1) (b e1) (empty p w q)
+
+    pub room3 : ((x : Eight) (y : ℕ) → giveBy (e3 (from8 L x)) (out8 x) ≡ some y → flow e2 x (flow e1 x none) ≡ none)
+        → (p : Use) (w : Wire) (y : ℕ) → slot tb p ≡ inner w → given (only tb L e3) (some w) ≡ some y → S2 .tok p ≡ none
+    room3 h p w y q k = go (link p w q)
+      where
+        go : Link p w → S2 .tok p ≡ none
+        go (linked x m a b) = ap (S2 .tok) a ∙ at2 x m ∙ h x y (room8 e3 x m w y b k)
+        go (unlinked a b) = tok-un e2 S1 p w q (a e2) (b e2) (tok-un e1 s p w q (a e1) (b e1) (empty p w q))
+
+    pub val3 : (p : Use) (v B c : ℕ) → slot tb p ≡ val v B c
+        → S3 .tok p ≡ put (given (only tb L e3) (some (wireOf tb v B))) (drop (taken (only tb L e3) p) (put (given (only tb L e2) (some (wireOf tb v B))) (drop (taken (only tb L e2) p)
+        (put (given (only tb L e1) (some (wireOf tb v B))) (drop (taken (only tb L e1) p) (s .tok p))))))
+    val3 p v B c q =
+        ap (λ (z : Slot). put (given (only tb L e3) (slotWire tb z)) (drop (taken (only tb L e3) p) (put (given (only tb L e2) (slotWire tb z)) (drop (taken (only tb L e2) p)
+        (put (given (only tb L e1) (slotWire tb z)) (drop (taken (only tb L e1) p) (s .tok p))))))) q
+
+    pub own3 : (n : Role) → inLoop tb L n ≡ true → S3 .own n ≡ nextBy (e3 n) (nextBy (e2 n) (nextBy (e1 n) (s .own n)))
+    own3 n h = own-in e3 S2 n h ∙ ap (nextBy (e3 n)) (own-in e2 S1 n h ∙ ap (nextBy (e2 n)) (own-in e1 s n h))
+
+    pub own2 : (n : Role) → inLoop tb L n ≡ true → S2 .own n ≡ nextBy (e2 n) (nextBy (e1 n) (s .own n))
+    own2 n h = own-in e2 S1 n h ∙ ap (nextBy (e2 n)) (own-in e1 s n h)
+
+    pub own-still : (n : Role) → inLoop tb L n ≡ false → S3 .own n ≡ s .own n
+    own-still n h = own-out e3 S2 n h ∙ own-out e2 S1 n h ∙ own-out e1 s n h
+
+    -- the words put
+    pub hist3 : (n : Role) (o : Output)
+        → S3 .hist n o ≡ s .hist n o ++ sayIf (inLoop tb L n) (listed (giveBy (e1 n) o) ++ (listed (giveBy (e2 n) o) ++ listed (giveBy (e3 n) o)))
+    hist3 n o = go (inLoop tb L n) refl
+      where
+        go : (b : Bool) → inLoop tb L n ≡ b → S3 .hist n o ≡ s .hist n o ++ sayIf b (listed (giveBy (e1 n) o) ++ (listed (giveBy (e2 n) o) ++ listed (giveBy (e3 n) o)))
+        go true h = rw (only-yes tb L e1 n h, only-yes tb L e2 n h, only-yes tb L e3 n h) (simp append-assoc)
+        go false h = rw (only-no tb L e1 n h, only-no tb L e2 n h, only-no tb L e3 n h) (append-nil (s .hist n o ++ [] ++ []) ∙ append-nil (s .hist n o ++ []))
+
+    -- all three, fired
+    pub fired3 :
+        ((n : Role) (d : Effect) → inLoop tb L n ≡ true → e1 n ≡ some d → Ready (plan tb) n d s)
+        → ((n : Role) (d : Effect) → inLoop tb L n ≡ true → e2 n ≡ some d → Ready (plan tb) n d S1)
+        → ((n : Role) (d : Effect) → inLoop tb L n ≡ true → e3 n ≡ some d → Ready (plan tb) n d S2)
+        → (xs : List Role) × Steps (plan tb) xs s S3
+    fired3 r1 r2 r3 =
+        let a = loop-stage tb g L f e1 s r1 in
+        let b = loop-stage tb g L f e2 S1 r2 in
+        let c = loop-stage tb g L f e3 S2 r3 in
+        (a .0 ++ (b .0 ++ c .0), steps-append (plan tb) (a .0) (b .0 ++ c .0) s S1 S3 (a .1) (steps-append (plan tb) (b .0) (c .0) S1 S2 S3 (b .1) (c .1)))

@@ -1,0 +1,231 @@
+-- THE LOWERED TABLE MEANS WHAT IT SAYS. A loop table is read row by row; its lowered graph is fired in an order that nobody knows. These theorems
+-- say that the graph, whatever the order, comes to rest with the words of the reading, and leaves nothing behind: a loop that opens for no turn
+-- keeps no word of a carried-in value, so the next opening cannot meet it.
+--
+--   lowered-table-means-its-reading   every order rests after the same number of firings, with the reading's words and nothing else
+--   every-run-is-complete             so every run with that allowance, whatever its list, answers COMPLETE in that state
+--   zero-step-is-never-complete       where the reading meets a zero step, every order that rests answers ZERO STEP
+--   no-run-completes-a-fault          so no run, whatever its list and allowance, answers COMPLETE there
+--
+-- The words: `t` is a table's words, `loweredWords t` its graph's words, `loadedTable t inputs` the freshly loaded state's words.
+-- The hypotheses, once for all:
+--   checkAnswer t .number ≡ 0         the table check answers 0: the table passes refusals 1 to 9 and its four counts are in their limits
+--   Reads t inputs (ended ..)         the plain reading of t on these inputs ends, with these results and these openings, in order
+--   Reads t inputs (zeroStep ..)      the plain reading of t on these inputs meets a zero step at this FOR row
+--   Fires g order s u                 the nodes of `order` fire one after the other, each ready in its turn, and lead from s to u
+--   AtRest g u                        no node is ready in u
+-- Nothing is asked of the inputs: a missing input word is 0 in the reading and in the loaded state alike.
+--
+-- The idea. By the first half it is enough to show one order that rests in the right state; let it follow the reading. The graph's configuration
+-- where the reading stands at row pc with words env is a closed form (Gamma): a use holds a token exactly if pc lies in an interval. Each step of
+-- the reading is one to three stages of nodes that are ready together (StepOp, For, End); forks and drains are spread once for all (uses).
+-- Assumes nothing.
+use mathlib.Core.Path.{_≡_, refl, sym, ap, _∙_, subst}
+use mathlib.Core.Logic.{_≢_, _⊎_, inl, inr}
+use mathlib.Core.Bool.{Bool, true, false, cond, not, _||_}
+use mathlib.Core.Option.{Option, none, some}
+use mathlib.Core.List.{List, [], _∷_, _++_, reverse}
+use Prim.Native.Nat.{ℕ, zero, suc, _+_, _≤_, _<_}
+use native.Mathlib.Omega.{arith}
+use borrow.Author.Tests.{eqb-true}
+use lib.Dec.{eqb}
+use lib.ListN.{length}
+use Rattle.step.specs.Kinds.{STREAM, Input, in0, in1, in2, out1}
+use Rattle.step.specs.Machines.{rest}
+use Rattle.graph.specs.Below.{every, both-true, every-each, times, times-somewhere}
+use Rattle.graph.specs.Graph.{nodeCount, wireCount, inputAt, inputOf, resultCount, resultAt, results, Node}
+use Rattle.graph.specs.Refusal.{graphRefusal}
+use Rattle.graph.specs.Accepted.{node-in-range}
+use Rattle.state.specs.Load.{loaded}
+use Rattle.state.specs.Net.{netOf, fire}
+use Rattle.state.specs.Run.{isFull, isResult, complete, othersEmpty, resultsFull, phasesZero, COMPLETE, SPENT, ZERO-STEP, outcome}
+use Rattle.confluence.specs.Statements.{Fires, AtRest, putOnWire, RestsAlike, every-order-rests-alike, runOf, enough-is-not-spent, run-is-an-order}
+use Rattle.table.specs.Rows.{kindOf, size, FOR}
+use Rattle.table.specs.Check.{tableRefusal, answer}
+use Rattle.structure.specs.Structure.{Structure, passing-table-has-structure}
+use Rattle.reading.specs.Reading.{Opening, Outcome, ended, zeroStep, begin, read, readFrom, resultsFrom}
+use Rattle.reading.specs.Outcome.{Reads}
+use Rattle.lowered.specs.Roles.{stream, gate, output, into, result}
+use Rattle.lowered.specs.Lower.{wireNumber, loweredWords}
+use Rattle.lowered.specs.Room.{checkAnswer, refusedBy, hasRoom}
+use Rattle.laid.specs.Answers.{number-0-is-no-refusal, checked-table-lowers}
+use Rattle.faithful.specs.Conditions.{turnsOf, turns-reverse, rawOf, gatedOf}
+use Rattle.faithful.specs.Table.{IsFor}
+use Rattle.faithful.specs.Tables.{tableOf, for-row, for-kind}
+use Rattle.faithful.specs.Sound.{passing-is-good}
+use Rattle.faithful.specs.Following.{Follows, Ended, Faulted, followed}
+use Rattle.faithful.specs.Finish.{finished, rests}
+use Rattle.faithful.specs.Places.{laid, num}
+use Rattle.faithful.specs.Order.{first-state, follows-first, Shows, order-shows}
+use Rattle.faithful.specs.Endings.{AsRead, ended-as-read, answers-complete}
+use Rattle.faithful.specs.Faults.{ZeroStepped, zero-step-lasts, answers-zero-step}
+use Rattle.faithful.specs.Waiting.{waiting, not-complete}
+
+abbrev pub loadedTable : List ℕ → List ℕ → List ℕ
+loadedTable t inputs = loaded (loweredWords t) inputs
+
+-- the raw and the gated condition wire of the loop whose FOR stands at row L
+abbrev pub rawWire : List ℕ → ℕ → ℕ
+rawWire t L = wireNumber t (output (stream L) out1)
+
+abbrev pub gatedWire : List ℕ → ℕ → ℕ
+gatedWire t L = wireNumber t (output (gate L) out1)
+
+-- What an order has put on the conditions of each loop: for its openings in turn, N ones and a zero on the raw one, and N - 1 ones and a zero, or
+-- nothing for N = 0, on the gated one.
+pub record ConditionsTold (t : List ℕ) (openings : List Opening) (order s : List ℕ) : Type 0 where
+  pub raw : (L : ℕ) → kindOf t L ≡ FOR → putOnWire (loweredWords t) order s (rawWire t L) ≡ rawOf (turnsOf L openings)
+  pub gated : (L : ℕ) → kindOf t L ≡ FOR → putOnWire (loweredWords t) order s (gatedWire t L) ≡ gatedOf (turnsOf L openings)
+
+-- An order that has come to rest in u, after F firings, has done what the reading did.
+pub record EndsAsRead (t inputs words : List ℕ) (openings : List Opening) (F : ℕ) (order u : List ℕ) : Type 0 where
+  pub firings : length order ≡ F
+  pub state : AsRead t words u
+  pub conditions : ConditionsTold t openings order (loadedTable t inputs)
+  pub answer : outcome (loweredWords t) u .answer ≡ COMPLETE
+
+-- What every list of ready firings from the loaded state has to do with the reading.
+pub record Faithful (t inputs words : List ℕ) (openings : List Opening) (F : ℕ) (order u : List ℕ) : Type 0 where
+  -- it is at most F long
+  pub at-most : length order ≤ F
+  -- it can be extended until it rests
+  pub extends : (more : List ℕ) × (v : List ℕ) × Fires (loweredWords t) more u v × AtRest (loweredWords t) v × (length order + length more ≡ F)
+  -- and if it rests, it ends as the reading does
+  pub ends : AtRest (loweredWords t) u → EndsAsRead t inputs words openings F order u
+
+-- ---- from the check's answer
+
+passes : (t : List ℕ) → checkAnswer t .number ≡ 0 → tableRefusal t ≡ answer 0 0
+unfolding checkAnswer refusedBy
+passes t h = number-0-is-no-refusal t (go (eqb (tableRefusal t .number) 0) refl h)
+  where
+    go : (b : Bool) → eqb (tableRefusal t .number) 0 ≡ b → cond b (cond (hasRoom t) (answer 0 0) (answer 10 (size t))) (tableRefusal t) .number ≡ 0 → tableRefusal t .number ≡ 0
+    go true e k = eqb-true (tableRefusal t .number) 0 e
+    go false e k = k
+
+module _ (t : List ℕ) (checked : checkAnswer t .number ≡ 0) where
+  abbrev S : Structure t
+  S = passing-table-has-structure t (passes t checked)
+
+  abbrev ok : graphRefusal (loweredWords t) ≡ 0
+  ok = checked-table-lowers t checked
+
+  reading-of : (inputs : List ℕ) (o : Outcome) → Reads t inputs o → Ended t S (first-state t S ok inputs) o ⊎ Faulted t S (first-state t S ok inputs) o
+  unfolding read
+  reading-of inputs o r = followed t S (r .steps) (begin t inputs) (first-state t S ok inputs) (follows-first t S ok inputs) o (r .comes)
+
+  -- ---- the order that follows the reading
+
+  one-order : (inputs words : List ℕ) (openings : List Opening) → Reads t inputs (ended words openings)
+      → (order : List ℕ) × (u : List ℕ) × Fires (loweredWords t) order (loadedTable t inputs) u × AtRest (loweredWords t) u × AsRead t words u × ConditionsTold t openings order (loadedTable t inputs)
+  one-order inputs words openings r = go (reading-of inputs (ended words openings) r)
+    where
+      go : Ended t S (first-state t S ok inputs) (ended words openings) ⊎ Faulted t S (first-state t S ok inputs) (ended words openings)
+          → (order : List ℕ) × (u : List ℕ) × Fires (loweredWords t) order (loadedTable t inputs) u × AtRest (loweredWords t) u × AsRead t words u × ConditionsTold t openings order (loadedTable t inputs)
+      go (inr e) = let k = e .outcome in let z : _≡_ {A = ℕ} 0 1 = cc in absurd (omega arith)
+      go (inl e) =
+          let tb = tableOf t in
+          let N = netOf (loweredWords t) in
+          let n = nodeCount (loweredWords t) in
+          let x = order-shows t S ok inputs (e .path) (e .there) (e .steps) in
+          let G = passing-is-good t S in
+          let k = e .outcome in
+          let kw : words ≡ resultsFrom (size t) t (e .env) 0 = cc in
+          let ko : openings ≡ reverse (e .openings) = cc in
+          let f = finished tb N n (laid t S ok) G (e .env) (x .tokens) (e .there) (x .shown) (e .follows .gamma) (x .state) (x .flat) in (
+            x .order,
+            x .state,
+            x .fires,
+            rests tb N n (laid t S ok) G (e .env) (x .tokens) (e .there) (x .shown) (e .follows .gamma) (x .state) (x .flat),
+            subst (λ (z : List ℕ). AsRead t z (x .state)) (sym kw) (ended-as-read t S ok (e .env) (x .state) f),
+            record {
+              raw = λ L kL.
+                  let m = for-row t S L kL in
+                  x .words (stream L) out1 (m, tt) ∙ e .follows .told L m .shut (λ i. let a = G .for-size L m in let i1 = i .1 in omega arith) .0
+                  ∙ ap rawOf (sym (turns-reverse L (e .openings)) ∙ ap (turnsOf L) (sym ko));
+              gated = λ L kL.
+                  let m = for-row t S L kL in
+                  x .words (gate L) out1 (m, tt) ∙ e .follows .told L m .shut (λ i. let a = G .for-size L m in let i1 = i .1 in omega arith) .1
+                  ∙ ap gatedOf (sym (turns-reverse L (e .openings)) ∙ ap (turnsOf L) (sym ko));
+            },
+          )
+
+  -- THE THEOREM: there is an F such that every list of ready firings from the loaded state is faithful. The empty list shows that some order rests.
+  pub lowered-table-means-its-reading : (inputs words : List ℕ) (openings : List Opening) → Reads t inputs (ended words openings)
+      → (F : ℕ) × ((order u : List ℕ) → Fires (loweredWords t) order (loadedTable t inputs) u → Faithful t inputs words openings F order u)
+  lowered-table-means-its-reading inputs words openings r =
+      let w = one-order inputs words openings r in (
+        length (w .0),
+        λ order u q.
+            let a = every-order-rests-alike (loweredWords t) ok (w .0) (loadedTable t inputs) (w .1) (w .2) (w .3) order u q in
+            record {
+              at-most = a .at-most;
+              extends = (a .extends .0, w .1, a .extends .1, w .3, a .extends .2);
+              ends = λ h.
+                  let A = subst (AsRead t words) (sym (a .same-words h)) (w .4) in
+                  record {
+                    firings = a .as-many h;
+                    state = A;
+                    conditions = record {
+                      raw = λ L k. a .same-histories h (rawWire t L) ∙ w .5 .raw L k;
+                      gated = λ L k. a .same-histories h (gatedWire t L) ∙ w .5 .gated L k;
+                    };
+                    answer = answers-complete t S ok words u A h;
+                  };
+            },
+      )
+
+  -- ---- runs
+
+  -- Any run with an allowance of F, whatever its list of nodes, answers COMPLETE, has made F firings and ends as the reading does.
+  pub every-run-is-complete : (inputs words : List ℕ) (openings : List Opening) → Reads t inputs (ended words openings)
+      → (F : ℕ) × ((list : List ℕ) (allowance : ℕ) → F ≤ allowance → let p = runOf (loweredWords t) list (loadedTable t inputs) allowance in
+      (outcome (loweredWords t) (p .state) .answer ≡ COMPLETE) × (F + p .left ≡ allowance) × AsRead t words (p .state))
+  every-run-is-complete inputs words openings r =
+      let w = one-order inputs words openings r in (
+        length (w .0),
+        λ list allowance enough.
+            let e = enough-is-not-spent (loweredWords t) ok (w .0) (loadedTable t inputs) (w .1) (w .2) (w .3) list allowance enough in
+            let A = subst (AsRead t words) (sym (e .0)) (w .4) in
+            let h = subst (AtRest (loweredWords t)) (sym (e .0)) (w .3) in
+            (answers-complete t S ok words (runOf (loweredWords t) list (loadedTable t inputs) allowance .state) A h, e .1, A),
+      )
+
+  -- ---- a zero step
+
+  -- an order that follows the reading up to the FOR row leaves its STREAM waiting with a zero step
+  faulted-order : (inputs : List ℕ) (L : ℕ) (openings : List Opening) → Reads t inputs (zeroStep L openings)
+      → (order : List ℕ) × (u : List ℕ) × Fires (loweredWords t) order (loadedTable t inputs) u × ZeroStepped (loweredWords t) u (num t S (stream L)) × IsFor (tableOf t) L
+  faulted-order inputs L openings r = go (reading-of inputs (zeroStep L openings) r)
+    where
+      go : Ended t S (first-state t S ok inputs) (zeroStep L openings) ⊎ Faulted t S (first-state t S ok inputs) (zeroStep L openings)
+          → (order : List ℕ) × (u : List ℕ) × Fires (loweredWords t) order (loadedTable t inputs) u × ZeroStepped (loweredWords t) u (num t S (stream L)) × IsFor (tableOf t) L
+      go (inl e) = let k = e .outcome in let z : _≡_ {A = ℕ} 0 1 = cc in absurd (omega arith)
+      go (inr e) =
+          let k = e .outcome in
+          let d : L ≡ e .loop = cc in
+          let x = order-shows t S ok inputs (e .path) (e .there) (e .steps) in (
+            x .order,
+            x .state,
+            x .fires,
+            subst (λ (z : ℕ). ZeroStepped (loweredWords t) (x .state) (num t S (stream z))) (sym d)
+                (waiting t S ok inputs (e .loop) (e .start) (e .step) (e .bound) (e .change) (e .compare) (e .row) (e .env) (e .there) (e .follows .gamma) (e .zero-step) x),
+            subst (IsFor (tableOf t)) (sym d) (e .start, e .step, e .bound, e .change, e .compare, e .row),
+          )
+
+  -- Every order that rests answers ZERO STEP: the STREAM of some loop in phase 0 has three tokens, and its step is 0.
+  pub zero-step-is-never-complete : (inputs : List ℕ) (L : ℕ) (openings : List Opening) → Reads t inputs (zeroStep L openings)
+      → (order u : List ℕ) → Fires (loweredWords t) order (loadedTable t inputs) u → AtRest (loweredWords t) u → outcome (loweredWords t) u .answer ≡ ZERO-STEP
+  zero-step-is-never-complete inputs L openings r order u q h =
+      let f = faulted-order inputs L openings r in
+      let a = every-order-rests-alike (loweredWords t) ok order (loadedTable t inputs) u q h (f .0) (f .1) (f .2) in
+      let Z = zero-step-lasts (loweredWords t) ok (a .extends .0) (f .1) u (num t S (stream L)) (f .3) (a .extends .1) in
+      answers-zero-step (loweredWords t) u (num t S (stream L)) (node-in-range (loweredWords t) (num t S (stream L)) (Z .node) (Z .here)) Z h (not-complete t S ok u L (f .4) Z)
+
+  -- So no run answers COMPLETE.
+  pub no-run-completes-a-fault : (inputs : List ℕ) (L : ℕ) (openings : List Opening) → Reads t inputs (zeroStep L openings)
+      → (list : List ℕ) (allowance : ℕ) → outcome (loweredWords t) (runOf (loweredWords t) list (loadedTable t inputs) allowance .state) .answer ≢ COMPLETE
+  no-run-completes-a-fault inputs L openings r list allowance c =
+      let m = run-is-an-order (loweredWords t) list (loadedTable t inputs) allowance (λ z. let y : COMPLETE ≡ SPENT = sym c ∙ z in omega arith) in
+      let z = zero-step-is-never-complete inputs L openings r (m .0) (runOf (loweredWords t) list (loadedTable t inputs) allowance .state) (m .1) (m .2) in
+      let y : COMPLETE ≡ ZERO-STEP = sym c ∙ z in omega arith

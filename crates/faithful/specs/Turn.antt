@@ -1,0 +1,409 @@
+-- What FOR and END steps share: rebinding of ARGs and NEXTs, values and records that a step does not touch.
+-- Assumes nothing.
+use mathlib.Core.Path.{_≡_, refl, sym, ap, ap₂, _∙_, subst, subst₂}
+use mathlib.Core.Logic.{_≢_, _⊎_, inl, inr}
+use mathlib.Core.Bool.{Bool, true, false}
+use mathlib.Core.Option.{Option, none, some}
+use mathlib.Core.List.{List, [], _∷_, _++_}
+use Prim.Native.Nat.{ℕ, zero, suc, _+_, _*_, _≤_, _<_}
+use native.Mathlib.Omega.{arith}
+use native.Mathlib.Decide.{ℕ-discrete, decLe}
+use lib.Dec.{T, eqb, eqb→eq, eqb-refl}
+use mir.Facts.{yes-eqb}
+use mathlib.Core.Bool.{_&&_}
+use Rattle.word.specs.Words.{condition, update, operate}
+use Rattle.step.specs.Kinds.{Input, in0, in1, in2, Output, out0, out1, STREAM, GATE, CARRY, INVARIANT, SPLIT, OP, PICK}
+use Rattle.step.specs.Firing.{View, Effect, Program, stop, give, ask, perform, gives, takes, waits, room, fillable}
+use Rattle.step.specs.Machines.{program, rest, inPhase, holding, whether}
+use Rattle.step.specs.Locality.{every-program-is-local, asking-inv, giving-inv, taking-gives}
+use Rattle.step.specs.declared.Record.{Record}
+use Rattle.table.specs.Bodies.{Row, input, const, op, pick, for, arg, next, end, out, unknown}
+use Rattle.lowered.specs.Roles.{Role, sameRole, opNode, stream, gate, guard, copySplit, copyInvariant, carry, argSplit, Wire, start, output, Use, into, result}
+use Rattle.uses.specs.Machine.{Plan, State, giveBy, takeBy, nextBy, put, drop, listed, given, taken, viewOf, Among, Once, after, one, one-same, one-other, Ready, Steps, steps-append, stage-cover, those}
+use Rattle.faithful.specs.Table.{Table, Slot, val, inner, absent, named, sinceBy, IsFor, wireOf, born, since, slot, slotWire, src, isOp, isStart, isArg, Real, progOf, plan}
+use Rattle.faithful.specs.Good.{Inner, Used, Good, Source, wStart, wOp, wFor, wArg, wNxt, wInv, source, ForPort, fStream, fGuard, fSplit, fCarry, When, byOp, byFor, byEnd, byOut, when, Inward, nGate0, nGate1, nSplit, nInv0, nInv1, nCarry, nArg0, nArg1, inward}
+use Rattle.faithful.specs.Gamma.{Env, streamHeld, Live, Inside, Shows, scope, held, Gamma, shows-same, shows-none, shows-some, Rel, before, behind, inside, around, for-not-end, rel, head-row, since-head, since-in, since-own, held-same}
+use Rattle.faithful.specs.StepOp.{setTo, set-same, set-other, sight, runs-by, put-drop-none, body-quiet, real-body, recs-same, since-row, src-cases, token-at, Path, choose}
+use Rattle.faithful.specs.Loop.{inLoop, only, only-yes, only-no, only-some, arg-row, in-two, in-arg, two-in, arg-in, two-out, eqb-yes, eqb-no, is-eqb, loop-stage, for-below, reads-not, Fill, fIdx, fArg, fInv, fExit, fNone, fill, Taking, tFor, tEnd, tNone, takes-yes, takes-no, taking}
+use Rattle.faithful.specs.Stages.{Table3, Eight, gate0, gate1, split0, inv0, inv1, carry0, arg0, arg1, node8, in8, from8, out8, mem8, slot8, flow, tokv, own-in, by-role, real-in, ready-all, S1, S2, S3, at1, at2, at3, inner3, room2, room3, val3, own2, own3, own-still, fired3}
+use Rattle.faithful.specs.StepOp.{setBy}
+
+abbrev pub eff : Bool → Bool → Bool → Option ℕ → Option ℕ → Record → Option Effect
+eff a b c x y r = some (record { takes0 = a; takes1 = b; takes2 = c; gives0 = x; gives1 = y; next = r })
+
+abbrev pub isNxt : Row → Bool
+isNxt input = false
+isNxt (const w) = false
+isNxt (op c x y) = false
+isNxt (pick f x y) = false
+isNxt (for s t b u c) = false
+isNxt (arg i) = false
+isNxt (next v) = true
+isNxt end = false
+isNxt unknown = false
+isNxt (out x) = false
+
+setBy-no : (b : Bool) (w x : ℕ) → (b ≡ true → ⊥) → setBy b w x ≡ x
+setBy-no true w x h = absurd (h refl)
+setBy-no false w x h = refl
+
+and-both : (a b : Bool) → (a && b) ≡ true → (a ≡ true) × (b ≡ true)
+and-both true b h = (refl, h)
+and-both false b h = let z : _≡_ {A = ℕ} 0 1 = cc in absurd (omega arith)
+
+module _ (tb : Table) where
+  -- the ARGs, the NEXTs of loop L, all together
+  unfoldable pub argsTo : ℕ → Env → Env → Env
+  argsTo L h env v = setBy (eqb (tb .loop v) L && isArg (tb .row v)) (h v) (env v)
+
+  unfoldable pub nextsTo : ℕ → Env → Env → Env
+  nextsTo L h env v = setBy (eqb (tb .loop v) L && isNxt (tb .row v)) (h v) (env v)
+
+  pub args-same : (L : ℕ) (h env : Env) (v : ℕ) → tb .loop v ≡ L → isArg (tb .row v) ≡ true → argsTo L h env v ≡ h v
+  unfolding argsTo
+  args-same L h env v a b = rw (a, eqb-yes L, b)
+
+  pub args-other : (L : ℕ) (h env : Env) (v : ℕ) → (tb .loop v ≡ L → isArg (tb .row v) ≡ true → ⊥) → argsTo L h env v ≡ env v
+  unfolding argsTo
+  args-other L h env v n =
+      setBy-no (eqb (tb .loop v) L && isArg (tb .row v)) (h v) (env v) (λ k. let z = and-both (eqb (tb .loop v) L) (isArg (tb .row v)) k in n (is-eqb (tb .loop v) L (z .0)) (z .1))
+
+  pub nexts-same : (L : ℕ) (h env : Env) (v : ℕ) → tb .loop v ≡ L → isNxt (tb .row v) ≡ true → nextsTo L h env v ≡ h v
+  unfolding nextsTo
+  nexts-same L h env v a b = rw (a, eqb-yes L, b)
+
+  pub nexts-other : (L : ℕ) (h env : Env) (v : ℕ) → (tb .loop v ≡ L → isNxt (tb .row v) ≡ true → ⊥) → nextsTo L h env v ≡ env v
+  unfolding nextsTo
+  nexts-other L h env v n =
+      setBy-no (eqb (tb .loop v) L && isNxt (tb .row v)) (h v) (env v) (λ k. let z = and-both (eqb (tb .loop v) L) (isNxt (tb .row v)) k in n (is-eqb (tb .loop v) L (z .0)) (z .1))
+
+  pub nxt-row : (a : ℕ) → isNxt (tb .row a) ≡ true → (x : ℕ) × (tb .row a ≡ next x)
+  nxt-row a h = go (tb .row a) refl h
+    where
+      go : (d : Row) → tb .row a ≡ d → isNxt d ≡ true → (i : ℕ) × (tb .row a ≡ next i)
+      go input q k = let z : _≡_ {A = ℕ} 0 1 = cc in absurd (omega arith)
+      go (const x) q k = let z : _≡_ {A = ℕ} 0 1 = cc in absurd (omega arith)
+      go (op c x y) q k = let z : _≡_ {A = ℕ} 0 1 = cc in absurd (omega arith)
+      go (pick c x y) q k = let z : _≡_ {A = ℕ} 0 1 = cc in absurd (omega arith)
+      go (for s t b u c) q k = let z : _≡_ {A = ℕ} 0 1 = cc in absurd (omega arith)
+      go (arg i) q k = let z : _≡_ {A = ℕ} 0 1 = cc in absurd (omega arith)
+      go (next x) q k = (x, q)
+      go end q k = let z : _≡_ {A = ℕ} 0 1 = cc in absurd (omega arith)
+      go unknown q k = let z : _≡_ {A = ℕ} 0 1 = cc in absurd (omega arith)
+      go (out x) q k = let z : _≡_ {A = ℕ} 0 1 = cc in absurd (omega arith)
+
+  -- a turn begins: the index and the ARGs
+  abbrev pub turnEnv : ℕ → ℕ → Env → Env → Env
+  turnEnv L x h env = setTo L x (argsTo L h env)
+
+  sinceBy-le : (b : Bool) (x : ℕ) → sinceBy b x ≤ x
+  sinceBy-le true x = omega arith
+  sinceBy-le false x = omega arith
+
+  pub since-born : (v B : ℕ) → since tb v B ≤ born tb v
+  unfolding since
+  since-born v B = sinceBy-le (eqb (tb .home v) B) (born tb v)
+
+  module _ (g : Good tb) (L : ℕ) (f : IsFor tb L) where
+    -- the words that a new turn changes are of rows from L on, at home in L, and there from the start
+    turned : (v : ℕ) → (v ≡ L) ⊎ ((tb .loop v ≡ L) × (isArg (tb .row v) ≡ true)) → (L ≤ v) × (v < tb .first L) × (tb .home v ≡ L) × (born tb v ≡ 0)
+    turned v (inl e) =
+        let a = g .for-first L f in
+        (omega arith, omega arith, ap (tb .home) e ∙ g .for-home L f, ap (born tb) e ∙ rw (f .5))
+    turned v (inr h) =
+        let r = arg-row tb v (h .1) in
+        let q = r .1 in
+        let a = g .arg-low v (r .0) q in
+        let b : v < tb .first L = subst (λ (z : ℕ). v < tb .first z) (h .0) (g .arg-high v (r .0) q) in
+        let c : tb .loop v ≡ L = h .0 in
+        (omega arith, b, g .arg-home v (r .0) q ∙ c, rw q)
+
+    turn-or : (v : ℕ) (x : ℕ) (h env : Env) → (((v ≡ L) ⊎ ((tb .loop v ≡ L) × (isArg (tb .row v) ≡ true))) → ⊥) → turnEnv L x h env v ≡ env v
+    turn-or v x h env n = set-other L x (argsTo L h env) v (λ e. n (inl e)) ∙ args-other L h env v (λ a b. n (inr (a, b)))
+
+    -- before L nothing changes
+    pub turn-low : (v : ℕ) (x : ℕ) (h env : Env) → v < L → turnEnv L x h env v ≡ env v
+    turn-low v x h env l = turn-or v x h env (λ k. let z = turned v k in let z0 = z .0 in omega arith)
+
+    pub turn-idx : (x : ℕ) (h env : Env) → turnEnv L x h env L ≡ x
+    turn-idx x h env = set-same L x (argsTo L h env)
+
+    pub turn-arg : (a i : ℕ) (x : ℕ) (h env : Env) → tb .row a ≡ arg i → tb .loop a ≡ L → turnEnv L x h env a ≡ h a
+    turn-arg a i x h env q l =
+        let z = g .arg-low a i q in
+        set-other L x (argsTo L h env) a (λ e. let z′ : tb .loop a < a = z in omega arith) ∙ args-same L h env a l (ap isArg q)
+
+    -- what stands at the start of a turn, and is not the loop's own, has not changed
+    pub turn-same : (v B c : ℕ) (x : ℕ) (h env : Env) → Used tb v B c → tb .first B ≤ tb .first L → (B ≡ L → since tb v B ≢ 0) → turnEnv L x h env v ≡ env v
+    turn-same v B c x h env u lo n =
+        turn-or v x h env
+        (λ k.
+        let z = turned v k in
+        let z0 : L ≤ v = z .0 in
+        let zb : born tb v ≡ 0 = z .3 in
+        let sb = since-born v B in
+        elim (ℕ-discrete B L) [
+          | yes e ↦ n e (let y : since tb v B ≡ 0 = omega arith in y)
+          | no e ↦
+              let cr = u .away (λ d. e (sym d ∙ z .2)) in
+              let bf = g .in-for B v cr in
+              let lt : v < B = g .in-before B v cr in
+              let ff = g .for-first B bf in
+              let fl = g .for-last L f in
+              let ne = g .nest L B f bf (omega arith) (omega arith) in
+              let ne0 : tb .first L ≤ B = ne .0 in
+              omega arith
+        ])
+
+    -- the NEXTs at the end
+    pub leave-low : (v : ℕ) (h env : Env) → v < tb .first L → nextsTo L h env v ≡ env v
+    leave-low v h env l =
+        nexts-other L h env v
+        (λ a b. let r = nxt-row v b in let z : tb .first (tb .loop v) ≤ v = g .nxt-low v (r .0) (r .1) in let y : tb .first L ≤ v = subst (λ (w : ℕ). tb .first w ≤ v) a z in omega arith)
+
+    pub leave-same : (v B c : ℕ) (h env : Env) → Used tb v B c → tb .first B ≤ suc (tb .last L) → ((x : ℕ) → tb .row v ≡ next x → tb .loop v ≡ L → tb .home v ≡ B → ⊥) → nextsTo L h env v ≡ env v
+    leave-same v B c h env u lo n =
+        nexts-other L h env v
+        (λ a b.
+        let r = nxt-row v b in
+        elim (ℕ-discrete (tb .home v) B) [
+          | yes e ↦ n (r .0) (r .1) a e
+          | no e ↦
+              let cr = u .away e in
+              let bf = g .in-for B v cr in
+              let bo : born tb v ≤ B = g .in-born B v cr in
+              let bn : born tb v ≡ suc (tb .last L) = rw (r .1, a) in
+              let ff = g .for-first B bf in
+              omega arith
+        ])
+
+    -- ---- numbers of the four steps, for what the loop does not give
+
+    pub live-open : (v B c : ℕ) → Used tb v B c → c ≢ L → (B ≡ L → since tb v B ≢ 0) → (Live tb v B c L → Live tb v B c (tb .first L)) × (Live tb v B c (tb .first L) → Live tb v B c L)
+    live-open v B c u nc n =
+        let ff = g .for-first L f in
+        let fl = g .for-last L f in
+        elim (ℕ-discrete B L) [
+          | yes e ↦
+              let fe : tb .first B ≡ tb .first L = ap (tb .first) e in (
+                λ l. let l0 = l .0 in absurd (omega arith),
+                λ l. let l2 : since tb v B ≤ tb .first L = l .2 in
+                    elim (since-own tb g v L f) [
+                      | inl z ↦ absurd (n e (ap (since tb v) e ∙ z))
+                      | inr z ↦ let z′ : since tb v B ≡ since tb v L = ap (since tb v) e in absurd (omega arith)
+                    ],
+              )
+          | no e ↦
+              elim (rel tb g B L (u .body) f e) [
+                | before x ↦ (λ l. let l1 = l .1 in absurd (omega arith), λ l. let l1 = l .1 in absurd (omega arith))
+                | behind x y ↦ (λ l. let l0 = l .0 in absurd (omega arith), λ l. let l0 = l .0 in absurd (omega arith))
+                | inside x y z ↦ (λ l. let l0 = l .0 in absurd (omega arith), λ l. let l0 = l .0 in absurd (omega arith))
+                | around x y ↦ (
+                  λ l. let l2 : since tb v B ≤ L = l .2 in let l3 : L ≤ c = l .3 in let h : tb .first L ≤ c = u .heads L f (omega arith) in (omega arith, omega arith, omega arith, omega arith),
+                  λ l. let l2 : since tb v B ≤ tb .first L = l .2 in let l3 : tb .first L ≤ c = l .3 in
+                      elim (decLe (since tb v B) L) [
+                        | yes k ↦ (omega arith, omega arith, omega arith, omega arith)
+                        | no k ↦ let h = since-head tb g v B L f (omega arith) in absurd (omega arith)
+                      ],
+                )
+              ]
+        ]
+
+    pub inside-open : (B : ℕ) → (B ≡ tb .size) ⊎ IsFor tb B → B ≢ L → (Inside tb B L → Inside tb B (tb .first L)) × (Inside tb B (tb .first L) → Inside tb B L)
+    inside-open B bd e =
+        let ff = g .for-first L f in
+        let fl = g .for-last L f in
+        elim (rel tb g B L bd f e) [
+          | before x ↦ (λ l. let l1 = l .1 in absurd (omega arith), λ l. let l1 = l .1 in absurd (omega arith))
+          | behind x y ↦ (λ l. let l0 = l .0 in absurd (omega arith), λ l. let l0 = l .0 in absurd (omega arith))
+          | inside x y z ↦ (λ l. let l0 = l .0 in absurd (omega arith), λ l. let l0 = l .0 in absurd (omega arith))
+          | around x y ↦ (λ l. (omega arith, omega arith), λ l. (omega arith, omega arith))
+        ]
+
+    pub since-home : (v B : ℕ) → tb .home v ≡ B → since tb v B ≡ born tb v
+    unfolding since
+    since-home v B h = rw (h, eqb-yes B)
+
+    -- born by the END of L, in a body around L: a NEXT of L
+    late : (v B : ℕ) → tb .first B ≤ L → L < since tb v B → since tb v B ≤ suc (tb .last L)
+        → (x : ℕ) × (tb .row v ≡ next x) × (tb .loop v ≡ L) × (tb .home v ≡ B) × (since tb v B ≡ suc (tb .last L))
+    late v B lo a b =
+        let ff = g .for-first L f in
+        elim (since-in tb g v B L f a b) [
+          | inl w ↦ let w0 = w .0 in absurd (omega arith)
+          | inr w ↦ (w .0, w .1, w .2, w .3, since-home v B (w .3) ∙ rw (w .1, w .2))
+        ]
+
+    pub live-none : (v B c : ℕ) → Used tb v B c → c ≢ L → ((x : ℕ) → tb .row v ≡ next x → tb .loop v ≡ L → tb .home v ≡ B → ⊥)
+        → (Live tb v B c L → Live tb v B c (suc (tb .last L))) × (Live tb v B c (suc (tb .last L)) → Live tb v B c L)
+    live-none v B c u nc n =
+        let ff = g .for-first L f in
+        let fl = g .for-last L f in
+        elim (ℕ-discrete B L) [
+          | yes e ↦
+              let fe : tb .first B ≡ tb .first L = ap (tb .first) e in
+              let le : tb .last B ≡ tb .last L = ap (tb .last) e in
+              (λ l. let l0 = l .0 in absurd (omega arith), λ l. let l1 = l .1 in absurd (omega arith))
+          | no e ↦
+              elim (rel tb g B L (u .body) f e) [
+                | before x ↦ (λ l. let l1 = l .1 in absurd (omega arith), λ l. let l1 = l .1 in absurd (omega arith))
+                | behind x y ↦ (λ l. let l0 = l .0 in absurd (omega arith), λ l. let l0 = l .0 in absurd (omega arith))
+                | inside x y z ↦ (λ l. let l0 = l .0 in absurd (omega arith), λ l. let l1 = l .1 in absurd (omega arith))
+                | around x y ↦ (
+                  λ l. let l2 : since tb v B ≤ L = l .2 in let l3 : L ≤ c = l .3 in
+                      elim (decLe c (tb .last L)) [
+                        | yes k ↦ let w = u .place .within L f (omega arith) k in let w0 = w .0 in absurd (omega arith)
+                        | no k ↦ (omega arith, omega arith, omega arith, omega arith)
+                      ],
+                  λ l. let l2 : since tb v B ≤ suc (tb .last L) = l .2 in let l3 : suc (tb .last L) ≤ c = l .3 in
+                      elim (decLe (since tb v B) L) [
+                        | yes k ↦ (omega arith, omega arith, omega arith, omega arith)
+                        | no k ↦ let w = late v B x (omega arith) l2 in absurd (n (w .0) (w .1) (w .2) (w .3))
+                      ],
+                )
+              ]
+        ]
+
+    pub live-again : (v B c : ℕ) → Used tb v B c → c ≢ tb .last L → (B ≡ L → since tb v B ≢ 0)
+        → (Live tb v B c (tb .last L) → Live tb v B c (tb .first L)) × (Live tb v B c (tb .first L) → Live tb v B c (tb .last L))
+    live-again v B c u nc n =
+        let ff = g .for-first L f in
+        let fl = g .for-last L f in
+        let hi : c ≤ tb .last B = u .place .high in
+        elim (ℕ-discrete B L) [
+          | yes e ↦
+              let fe : tb .first B ≡ tb .first L = ap (tb .first) e in
+              let le : tb .last B ≡ tb .last L = ap (tb .last) e in (
+                λ l. let l3 : tb .last L ≤ c = l .3 in absurd (omega arith),
+                λ l. let l2 : since tb v B ≤ tb .first L = l .2 in
+                    elim (since-own tb g v L f) [
+                      | inl z ↦ absurd (n e (ap (since tb v) e ∙ z))
+                      | inr z ↦ let z′ : since tb v B ≡ since tb v L = ap (since tb v) e in absurd (omega arith)
+                    ],
+              )
+          | no e ↦
+              elim (rel tb g B L (u .body) f e) [
+                | before x ↦ (λ l. let l1 = l .1 in absurd (omega arith), λ l. let l1 = l .1 in absurd (omega arith))
+                | behind x y ↦ (λ l. let l0 = l .0 in absurd (omega arith), λ l. let l0 = l .0 in absurd (omega arith))
+                | inside x y z ↦ (λ l. let l1 = l .1 in absurd (omega arith), λ l. let l0 = l .0 in absurd (omega arith))
+                | around x y ↦ (
+                  λ l. let l2 : since tb v B ≤ tb .last L = l .2 in let l3 : tb .last L ≤ c = l .3 in
+                      elim (decLe (since tb v B) L) [
+                        | yes k ↦ (omega arith, omega arith, omega arith, omega arith)
+                        | no k ↦ let w = late v B x (omega arith) (omega arith) in let w4 = w .4 in absurd (omega arith)
+                      ],
+                  λ l. let l2 : since tb v B ≤ tb .first L = l .2 in let l3 : tb .first L ≤ c = l .3 in
+                      elim (decLe c (tb .last L)) [
+                        | yes k ↦ let w = u .place .within L f (omega arith) k in let w0 = w .0 in absurd (omega arith)
+                        | no k ↦ (omega arith, omega arith, omega arith, omega arith)
+                      ],
+                )
+              ]
+        ]
+
+    pub live-leave : (v B c : ℕ) → Used tb v B c → c ≢ tb .last L → ((x : ℕ) → tb .row v ≡ next x → tb .loop v ≡ L → tb .home v ≡ B → ⊥)
+        → (Live tb v B c (tb .last L) → Live tb v B c (suc (tb .last L))) × (Live tb v B c (suc (tb .last L)) → Live tb v B c (tb .last L))
+    live-leave v B c u nc n =
+        let ff = g .for-first L f in
+        let fl = g .for-last L f in
+        let hi : c ≤ tb .last B = u .place .high in
+        elim (ℕ-discrete B L) [
+          | yes e ↦
+              let le : tb .last B ≡ tb .last L = ap (tb .last) e in
+              (λ l. let l3 : tb .last L ≤ c = l .3 in absurd (omega arith), λ l. let l1 = l .1 in absurd (omega arith))
+          | no e ↦
+              elim (rel tb g B L (u .body) f e) [
+                | before x ↦ (λ l. let l1 = l .1 in absurd (omega arith), λ l. let l1 = l .1 in absurd (omega arith))
+                | behind x y ↦ (λ l. let l0 = l .0 in absurd (omega arith), λ l. let l0 = l .0 in absurd (omega arith))
+                | inside x y z ↦ (λ l. let l1 = l .1 in absurd (omega arith), λ l. let l1 = l .1 in absurd (omega arith))
+                | around x y ↦ (
+                  λ l. let l2 : since tb v B ≤ tb .last L = l .2 in let l3 : tb .last L ≤ c = l .3 in (omega arith, omega arith, omega arith, omega arith),
+                  λ l. let l2 : since tb v B ≤ suc (tb .last L) = l .2 in let l3 : suc (tb .last L) ≤ c = l .3 in
+                      elim (decLe (since tb v B) L) [
+                        | yes k ↦ (omega arith, omega arith, omega arith, omega arith)
+                        | no k ↦ let w = late v B x (omega arith) l2 in absurd (n (w .0) (w .1) (w .2) (w .3))
+                      ],
+                )
+              ]
+        ]
+
+    pub inside-none : (B : ℕ) → (B ≡ tb .size) ⊎ IsFor tb B → B ≢ L → (Inside tb B L → Inside tb B (suc (tb .last L))) × (Inside tb B (suc (tb .last L)) → Inside tb B L)
+    inside-none B bd e =
+        let ff = g .for-first L f in
+        let fl = g .for-last L f in
+        elim (rel tb g B L bd f e) [
+          | before x ↦ (λ l. let l1 = l .1 in absurd (omega arith), λ l. let l1 = l .1 in absurd (omega arith))
+          | behind x y ↦ (λ l. let l0 = l .0 in absurd (omega arith), λ l. let l0 = l .0 in absurd (omega arith))
+          | inside x y z ↦ (λ l. let l0 = l .0 in absurd (omega arith), λ l. let l1 = l .1 in absurd (omega arith))
+          | around x y ↦ (λ l. (omega arith, omega arith), λ l. (omega arith, omega arith))
+        ]
+
+    pub inside-again : (B : ℕ) → (B ≡ tb .size) ⊎ IsFor tb B → B ≢ L → (Inside tb B (tb .last L) → Inside tb B (tb .first L)) × (Inside tb B (tb .first L) → Inside tb B (tb .last L))
+    inside-again B bd e =
+        let ff = g .for-first L f in
+        let fl = g .for-last L f in
+        elim (rel tb g B L bd f e) [
+          | before x ↦ (λ l. let l1 = l .1 in absurd (omega arith), λ l. let l1 = l .1 in absurd (omega arith))
+          | behind x y ↦ (λ l. let l0 = l .0 in absurd (omega arith), λ l. let l0 = l .0 in absurd (omega arith))
+          | inside x y z ↦ (λ l. let l1 = l .1 in absurd (omega arith), λ l. let l0 = l .0 in absurd (omega arith))
+          | around x y ↦ (λ l. (omega arith, omega arith), λ l. (omega arith, omega arith))
+        ]
+
+    pub inside-leave : (B : ℕ) → (B ≡ tb .size) ⊎ IsFor tb B → B ≢ L → (Inside tb B (tb .last L) → Inside tb B (suc (tb .last L))) × (Inside tb B (suc (tb .last L)) → Inside tb B (tb .last L))
+    inside-leave B bd e =
+        let ff = g .for-first L f in
+        let fl = g .for-last L f in
+        elim (rel tb g B L bd f e) [
+          | before x ↦ (λ l. let l1 = l .1 in absurd (omega arith), λ l. let l1 = l .1 in absurd (omega arith))
+          | behind x y ↦ (λ l. let l0 = l .0 in absurd (omega arith), λ l. let l0 = l .0 in absurd (omega arith))
+          | inside x y z ↦ (λ l. let l1 = l .1 in absurd (omega arith), λ l. let l1 = l .1 in absurd (omega arith))
+          | around x y ↦ (λ l. (omega arith, omega arith), λ l. (omega arith, omega arith))
+        ]
+
+    -- a loop that is open at the step, other than L, stands before L
+    pub outer-first-le : (B : ℕ) → IsFor tb B → B ≢ L → Inside tb B (tb .first L) → B < L
+    outer-first-le B h e l =
+        let ff = g .for-first B h in
+        let fl = g .for-last L f in
+        let l0 : tb .first B ≤ tb .first L = l .0 in
+        elim (decLe B L) [
+          | yes k ↦ omega arith
+          | no k ↦ let w = g .nest L B f h (omega arith) (omega arith) in let w0 = w .0 in absurd (omega arith)
+        ]
+
+    pub outer-leave : (B : ℕ) → IsFor tb B → B ≢ L → Inside tb B (suc (tb .last L)) → B < L
+    outer-leave B h e l =
+        let ff = g .for-first B h in
+        let l0 : tb .first B ≤ suc (tb .last L) = l .0 in
+        let l1 : suc (tb .last L) ≤ tb .last B = l .1 in
+        elim (decLe B L) [
+          | yes k ↦ omega arith
+          | no k ↦ let w = g .nest L B f h (omega arith) (omega arith) in let w1 = w .1 in absurd (omega arith)
+        ]
+
+    -- records of the nodes outside L
+    pub scope-not : (n : Role) → Real tb n → inLoop tb L n ≡ false → scope tb n ≢ L
+    scope-not (opNode r) rl h e = let a = for-below tb g L f in omega arith
+    scope-not (stream M) rl h e = let z : eqb M L ≡ true = ap (λ (y : ℕ). eqb y L) e ∙ eqb-yes L in let z : _≡_ {A = ℕ} 0 1 = cc in omega arith
+    scope-not (gate M) rl h e = let z : eqb M L ≡ true = ap (λ (y : ℕ). eqb y L) e ∙ eqb-yes L in let z : _≡_ {A = ℕ} 0 1 = cc in omega arith
+    scope-not (guard M) rl h e = let a = for-below tb g L f in omega arith
+    scope-not (copySplit M v) rl h e = let a = for-below tb g L f in omega arith
+    scope-not (copyInvariant M v) rl h e =
+        let z : (eqb M L && tb .carried M v) ≡ true = ap₂ (λ (x : ℕ) (y : Bool). eqb x L && y) e (rl .1) ∙ ap (λ (x : Bool). x && true) (eqb-yes L) in
+        let z : _≡_ {A = ℕ} 0 1 = cc in omega arith
+    scope-not (carry a) rl h e =
+        let z : (eqb (tb .loop a) L && isArg (tb .row a)) ≡ true = arg-in tb L a e (ap isArg (rl .1)) in
+        let z : _≡_ {A = ℕ} 0 1 = cc in omega arith
+    scope-not (argSplit a) rl h e = let a = for-below tb g L f in omega arith
+
+    -- the values' wires on which a table gives nothing
+    pub g-none : (e : Table3) → giveBy (e (gate L)) out0 ≡ none → ((v : ℕ) → giveBy (e (argSplit v)) out0 ≡ none) → ((v : ℕ) → giveBy (e (argSplit v)) out1 ≡ none) → ((v : ℕ) → giveBy (e (copyInvariant L v)) out0 ≡ none)
+        → (v B : ℕ) → Fill tb g L f v B → given (only tb L e) (some (wireOf tb v B)) ≡ none
+    g-none e h1 h2 h3 h4 v B (fIdx a b c d) = d e ∙ h1
+    g-none e h1 h2 h3 h4 v B (fArg i a b c d w) = w e ∙ h2 v
+    g-none e h1 h2 h3 h4 v B (fInv a b c d) = d e ∙ h4 v
+    g-none e h1 h2 h3 h4 v B (fExit x a b c d z w) = w e ∙ h3 (tb .argOf v)
+    g-none e h1 h2 h3 h4 v B (fNone a b d) = d e
+
+    pub no-gift : {A : Type 0} → (o : Option ℕ) (y : ℕ) → o ≡ none → o ≡ some y → A
+    no-gift o y a b = let z : _≡_ {A = ℕ} 0 1 = cc in absurd (omega arith)

@@ -1,0 +1,1 @@
+// Theorems alone: nothing here is run.

@@ -1,0 +1,4 @@
+pub mod Machine
+pub mod Wires
+pub mod Flat
+pub mod Layout
