@@ -1,0 +1,132 @@
+-- `calls::load_line` meets its contract: what is lent lies within the words and the line. Assumes nothing.
+use mathlib.Core.Path.{sym}
+use native.Mathlib.Omega.{arith}
+use lib.Seq.{length-take-le}
+use borrow.Author.Needs.{needs}
+use Rattle.calls.proofs.load_line.Statement.{statement}
+use Rattle.calls.proofs.load_line.Tie as tie
+
+part-requires : tie.Need-part-requires
+part-requires c κs = search needs
+
+number-requires : tie.Need-number-requires
+number-requires c κs = search needs
+
+part-requires-2 : tie.Need-part-requires-2
+part-requires-2 c κs = search needs
+
+words-requires : tie.Need-words-requires
+words-requires c κs = search needs
+
+part-requires-3 : tie.Need-part-requires-3
+part-requires-3 c κs = search needs
+
+words-requires-2 : tie.Need-words-requires-2
+words-requires-2 c κs = search needs
+
+first-of-requires : tie.Need-first-of-requires
+first-of-requires c κs = search needs
+
+first-of-requires-2 : tie.Need-first-of-requires-2
+first-of-requires-2 c κs = search needs
+
+error-requires : tie.Need-error-requires
+error-requires c κs = search needs
+
+same-length : tie.Need-same-length
+same-length c = search needs
+
+same-length-2 : tie.Need-same-length-2
+same-length-2 c = search needs
+
+same-length-3 : tie.Need-same-length-3
+same-length-3 c = search needs
+
+returns : tie.Need-returns
+returns c = search needs
+
+error-requires-2 : tie.Need-error-requires-2
+error-requires-2 c κs = search needs
+
+same-length-4 : tie.Need-same-length-4
+same-length-4 c = search needs
+
+same-length-5 : tie.Need-same-length-5
+same-length-5 c = search needs
+
+same-length-6 : tie.Need-same-length-6
+same-length-6 c = search needs
+
+returns-2 : tie.Need-returns-2
+returns-2 c = search needs
+
+slice-reshare-prefix-call-load : tie.Need-slice-reshare-prefix-call-load
+slice-reshare-prefix-call-load c = search needs
+
+slice-aggregate-call-load : tie.Need-slice-aggregate-call-load
+slice-aggregate-call-load c = sym (length-take-le _ _ (omega arith))
+
+slice-reshare-prefix-call-load-2 : tie.Need-slice-reshare-prefix-call-load-2
+slice-reshare-prefix-call-load-2 c = search needs
+
+slice-aggregate-call-load-2 : tie.Need-slice-aggregate-call-load-2
+slice-aggregate-call-load-2 c = sym (length-take-le _ _ (omega arith))
+
+slice-relend-prefix-call-load : tie.Need-slice-relend-prefix-call-load
+slice-relend-prefix-call-load c = search needs
+
+slice-aggregate-call-load-3 : tie.Need-slice-aggregate-call-load-3
+slice-aggregate-call-load-3 c = sym (length-take-le _ _ (omega arith))
+
+call-load-requires : tie.Need-call-load-requires
+call-load-requires c κs = search needs
+
+same-length-7 : tie.Need-same-length-7
+same-length-7 c = search needs
+
+same-length-8 : tie.Need-same-length-8
+same-length-8 c = search needs
+
+same-length-9 : tie.Need-same-length-9
+same-length-9 c = search needs
+
+same-length-10 : tie.Need-same-length-10
+same-length-10 c = search needs
+
+returns-3 : tie.Need-returns-3
+returns-3 c = search needs
+
+pub load-line-spec : {M : Type 1} → statement M
+load-line-spec =
+    tie.close
+    (tie.spec
+    part-requires
+    number-requires
+    part-requires-2
+    words-requires
+    part-requires-3
+    words-requires-2
+    first-of-requires
+    first-of-requires-2
+    error-requires
+    same-length
+    same-length-2
+    same-length-3
+    returns
+    error-requires-2
+    same-length-4
+    same-length-5
+    same-length-6
+    returns-2
+    slice-reshare-prefix-call-load
+    slice-aggregate-call-load
+    slice-reshare-prefix-call-load-2
+    slice-aggregate-call-load-2
+    slice-relend-prefix-call-load
+    slice-aggregate-call-load-3
+    call-load-requires
+    same-length-7
+    same-length-8
+    same-length-9
+    same-length-10
+    returns-3)

@@ -1,0 +1,552 @@
+// Calls as lines: a name, numbers in decimal, lists with semicolons between. One line is one call and has one line for its answer.
+// `answer` works on lent memory alone; `serve` reads lines from a descriptor and writes their answers to another.
+ghost use Prim.Native.Nat.{_≤_, _<_};
+ghost use lib.ListN.{length};
+use machine::Fired;
+use run::Ran;
+
+// What can be wrong with a line, beside the problems of its text.
+
+const NAME: u32 = 5;
+
+const LISTS: u32 = 6;
+
+const LENT: u32 = 7;
+
+const LONG: u32 = 8;
+
+// The calls, by number.
+
+const CHECK_GRAPH: u32 = 3;
+
+const LOAD: u32 = 4;
+
+const FIRE: u32 = 5;
+
+const RUN: u32 = 6;
+
+// What lent words hold before a call.
+const BEFORE: u32 = 7;
+
+fn same(a: &[u8], b: &[u8]) -> bool {
+    if a.len() != b.len() {
+        return false;
+    }
+    let mut i: usize = 0;
+    while i < a.len() {
+        if a[i] != b[i] {
+            return false;
+        }
+        i += 1;
+    }
+    true
+}
+
+// Where the name that a line starts with ends.
+fn name_end(line: &[u8]) -> usize
+    ensures { λ r. ⌜ r ≤ length (now (line .entry)) ⌝ }
+{
+    let mut i: usize = 0;
+    while i < line.len() {
+        if line[i] <= 32 {
+            return i;
+        }
+        i += 1;
+    }
+    i
+}
+
+// The call of a name, or 0.
+fn call_of(name: &[u8]) -> u32 {
+    if same(name, b"check_graph") {
+        return CHECK_GRAPH;
+    }
+    if same(name, b"load") {
+        return LOAD;
+    }
+    if same(name, b"fire") {
+        return FIRE;
+    }
+    if same(name, b"run") {
+        return RUN;
+    }
+    0
+}
+
+// How many semicolons a call has.
+fn lists_of(call: u32) -> usize {
+    match call {
+        LOAD => 2,
+        FIRE => 2,
+        RUN => 3,
+        _ => 0,
+    }
+}
+
+fn reason(problem: u32, out: &mut [u8], at: usize) -> usize
+    requires { ⌜ at ≤ length (now out) ⌝ }
+    ensures { λ r. ⌜ r ≤ length (now (out .entry)) ⌝ }
+{
+    match problem {
+        text::LETTER => text::put(out, at, b"a letter that is no digit, space or semicolon"),
+        text::LARGE => text::put(out, at, b"a number that is too large"),
+        text::MANY => text::put(out, at, b"more words in a list than there is room for"),
+        text::SINGLE => text::put(out, at, b"one number belongs before the first semicolon"),
+        NAME => text::put(out, at, b"no call has this name"),
+        LISTS => text::put(out, at, b"this call has another number of semicolons"),
+        LENT => text::put(out, at, b"more words are to be lent than there are"),
+        _ => text::put(out, at, b"the line is too long"),
+    }
+}
+
+fn error(problem: u32, out: &mut [u8]) -> usize
+    ensures { λ r. ⌜ r ≤ length (now (out .entry)) ⌝ }
+{
+    let n = text::put(out, 0, b"error: ");
+    reason(problem, out, n)
+}
+
+// The entries, each with its answer.
+
+fn say_number(number: u32, out: &mut [u8]) -> usize
+    ensures { λ r. ⌜ r ≤ length (now (out .entry)) ⌝ }
+{
+    text::put_number(out, 0, number as u64)
+}
+
+fn say_state(out: &mut [u8], at: usize, state: &[u32]) -> usize
+    requires { ⌜ at ≤ length (now out) ⌝ }
+    ensures { λ r. ⌜ r ≤ length (now (out .entry)) ⌝ }
+{
+    let n = text::put(out, at, b" ;");
+    text::put_words(out, n, state)
+}
+
+fn call_check_graph(graph: &[u32], out: &mut [u8]) -> usize
+    ensures { λ r. ⌜ r ≤ length (now (out .entry)) ⌝ }
+{
+    say_number(graph::check_graph(graph), out)
+}
+
+fn fill(lent: &mut [u32]) {
+    let mut i: usize = 0;
+    while i < lent.len() {
+        lent[i] = BEFORE;
+        i += 1;
+    }
+}
+
+fn call_load(graph: &[u32], inputs: &[u32], state: &mut [u32], out: &mut [u8]) -> usize
+    ensures { λ r. ⌜ r ≤ length (now (out .entry)) ⌝ }
+{
+    fill(state);
+    let number = machine::load(graph, inputs, state);
+    let n = say_number(number, out);
+    say_state(out, n, state)
+}
+
+fn say_fired(fired: Fired, out: &mut [u8]) -> usize
+    ensures { λ r. ⌜ r ≤ length (now (out .entry)) ⌝ }
+{
+    match fired {
+        Fired::Refused(number) => {
+            let n = say_number(number, out);
+            text::put_next(out, n, 0)
+        }
+        Fired::NotReady => text::put(out, 0, b"0 0"),
+        Fired::Done => text::put(out, 0, b"0 1"),
+    }
+}
+
+fn call_fire(node: u64, graph: &[u32], state: &mut [u32], out: &mut [u8]) -> usize
+    ensures { λ r. ⌜ r ≤ length (now (out .entry)) ⌝ }
+{
+    let fired = machine::fire(graph, state, node as usize);
+    let n = say_fired(fired, out);
+    say_state(out, n, state)
+}
+
+// The four numbers of a run's answer.
+fn say_four(number: u32, ended: u64, firings: u64, node: u32, out: &mut [u8]) -> usize
+    ensures { λ r. ⌜ r ≤ length (now (out .entry)) ⌝ }
+{
+    let a = say_number(number, out);
+    let b = text::put_next(out, a, ended);
+    let c = text::put_next(out, b, firings);
+    text::put_next(out, c, node as u64)
+}
+
+fn say_ran(ran: Ran, out: &mut [u8]) -> usize
+    ensures { λ r. ⌜ r ≤ length (now (out .entry)) ⌝ }
+{
+    match ran {
+        Ran::Refused(number) => say_four(number, 0, 0, 0, out),
+        Ran::Complete(firings) => say_four(0, 0, firings, 0, out),
+        Ran::ZeroStep(firings, node) => say_four(0, 1, firings, node, out),
+        Ran::Stranded(firings) => say_four(0, 2, firings, 0, out),
+        Ran::Spent(firings) => say_four(0, 3, firings, 0, out),
+    }
+}
+
+fn call_run(
+    allowance: u64,
+    graph: &[u32],
+    state: &mut [u32],
+    order: &[u32],
+    out: &mut [u8],
+) -> usize
+    ensures { λ r. ⌜ r ≤ length (now (out .entry)) ⌝ }
+{
+    let ran = run::run(graph, state, order, allowance);
+    let n = say_ran(ran, out);
+    say_state(out, n, state)
+}
+
+// The first of two problems.
+fn first_of(a: u32, b: u32) -> u32 {
+    if a != 0 {
+        return a;
+    }
+    b
+}
+
+// A line behind its name, for each call: its lists go to the lent words, then the call is made.
+
+fn check_graph_line(rest: &[u8], graph: &mut [u32], out: &mut [u8]) -> usize
+    ensures { λ r. ⌜ r ≤ length (now (out .entry)) ⌝ }
+{
+    let g = text::words(rest, graph);
+    if g.problem != 0 {
+        return error(g.problem, out);
+    }
+    let n = g.count;
+    call_check_graph(&graph[..n], out)
+}
+
+fn load_line(
+    rest: &[u8],
+    graph: &mut [u32],
+    inputs: &mut [u32],
+    state: &mut [u32],
+    out: &mut [u8],
+) -> usize
+    ensures { λ r. ⌜ r ≤ length (now (out .entry)) ⌝ }
+{
+    let lent = text::number(text::part(rest, 0));
+    let g = text::words(text::part(rest, 1), graph);
+    let i = text::words(text::part(rest, 2), inputs);
+    let problem = first_of(lent.problem, first_of(g.problem, i.problem));
+    if problem != 0 {
+        return error(problem, out);
+    }
+    let k = lent.value as usize;
+    if state.len() < k {
+        return error(LENT, out);
+    }
+    let n = g.count;
+    let m = i.count;
+    call_load(&graph[..n], &inputs[..m], &mut state[..k], out)
+}
+
+fn fire_line(rest: &[u8], graph: &mut [u32], state: &mut [u32], out: &mut [u8]) -> usize
+    ensures { λ r. ⌜ r ≤ length (now (out .entry)) ⌝ }
+{
+    let node = text::number(text::part(rest, 0));
+    let g = text::words(text::part(rest, 1), graph);
+    let s = text::words(text::part(rest, 2), state);
+    let problem = first_of(node.problem, first_of(g.problem, s.problem));
+    if problem != 0 {
+        return error(problem, out);
+    }
+    let n = g.count;
+    let k = s.count;
+    call_fire(node.value, &graph[..n], &mut state[..k], out)
+}
+
+fn run_line(
+    rest: &[u8],
+    graph: &mut [u32],
+    state: &mut [u32],
+    order: &mut [u32],
+    out: &mut [u8],
+) -> usize
+    ensures { λ r. ⌜ r ≤ length (now (out .entry)) ⌝ }
+{
+    let allowance = text::number(text::part(rest, 0));
+    let g = text::words(text::part(rest, 1), graph);
+    let s = text::words(text::part(rest, 2), state);
+    let o = text::words(text::part(rest, 3), order);
+    let problem = first_of(
+        allowance.problem,
+        first_of(g.problem, first_of(s.problem, o.problem)),
+    );
+    if problem != 0 {
+        return error(problem, out);
+    }
+    let n = g.count;
+    let k = s.count;
+    let m = o.count;
+    call_run(
+        allowance.value,
+        &graph[..n],
+        &mut state[..k],
+        &order[..m],
+        out,
+    )
+}
+
+fn line_of(
+    call: u32,
+    rest: &[u8],
+    first: &mut [u32],
+    second: &mut [u32],
+    third: &mut [u32],
+    out: &mut [u8],
+) -> usize
+    ensures { λ r. ⌜ r ≤ length (now (out .entry)) ⌝ }
+{
+    match call {
+        CHECK_GRAPH => check_graph_line(rest, first, out),
+        LOAD => load_line(rest, first, third, second, out),
+        FIRE => fire_line(rest, first, second, out),
+        _ => run_line(rest, first, second, third, out),
+    }
+}
+
+// The answer to a line, put into the lent letters; its length.
+pub fn answer(
+    line: &[u8],
+    first: &mut [u32],
+    second: &mut [u32],
+    third: &mut [u32],
+    out: &mut [u8],
+) -> usize
+    ensures { λ r. ⌜ r ≤ length (now (out .entry)) ⌝ }
+{
+    let e = name_end(line);
+    let call = call_of(&line[..e]);
+    if call == 0 {
+        return error(NAME, out);
+    }
+    let rest = &line[e..];
+    if text::semicolons(rest) != lists_of(call) {
+        return error(LISTS, out);
+    }
+    line_of(call, rest, first, second, third, out)
+}
+
+// Lines from a descriptor.
+
+// The letters of a line so far, and whether there were too many.
+struct Line {
+    count: usize,
+    long: bool,
+}
+
+fn gather(text: &mut [u8], line: Line, b: u8) -> Line
+    requires { ⌜ line .count ≤ length (now text) ⌝ }
+    ensures { λ r. ⌜ r .count ≤ length (now (text .entry)) ⌝ }
+{
+    let n = line.count;
+    if n < text.len() {
+        text[n] = b;
+        return Line {
+            count: n + 1,
+            long: false,
+        };
+    }
+    Line {
+        count: n,
+        long: true,
+    }
+}
+
+fn reply(
+    line: Line,
+    text: &[u8],
+    first: &mut [u32],
+    second: &mut [u32],
+    third: &mut [u32],
+    out: &mut [u8],
+) -> usize
+    requires { ⌜ line .count ≤ length (now text) ⌝ }
+    ensures { λ r. ⌜ r ≤ length (now (out .entry)) ⌝ }
+{
+    if line.long {
+        return error(LONG, out);
+    }
+    let n = line.count;
+    answer(&text[..n], first, second, third, out)
+}
+
+// Answers a line, and writes the answer.
+fn tell(
+    to: i32,
+    line: Line,
+    text: &[u8],
+    first: &mut [u32],
+    second: &mut [u32],
+    third: &mut [u32],
+    out: &mut [u8],
+)
+    requires { ⌜ line .count ≤ length (now text) ⌝ }
+{
+    let n = reply(line, text, first, second, third, out);
+    let m = text::put_letter(out, n, b'\n');
+    io::write_all(to, &out[..m]);
+}
+
+fn take(
+    b: u8,
+    to: i32,
+    line: Line,
+    text: &mut [u8],
+    first: &mut [u32],
+    second: &mut [u32],
+    third: &mut [u32],
+    out: &mut [u8],
+) -> Line
+    requires { ⌜ line .count ≤ length (now text) ⌝ }
+    ensures { λ r. ⌜ r .count ≤ length (now (text .entry)) ⌝ }
+{
+    if b == b'\n' {
+        tell(to, line, text, first, second, third, out);
+        return Line {
+            count: 0,
+            long: false,
+        };
+    }
+    gather(text, line, b)
+}
+
+fn feed(
+    chunk: &[u8],
+    to: i32,
+    given: Line,
+    text: &mut [u8],
+    first: &mut [u32],
+    second: &mut [u32],
+    third: &mut [u32],
+    out: &mut [u8],
+) -> Line
+    requires { ⌜ given .count ≤ length (now text) ⌝ }
+    ensures { λ r. ⌜ r .count ≤ length (now (text .entry)) ⌝ }
+{
+    let mut line = given;
+    let mut i: usize = 0;
+    while i < chunk.len() {
+        line = take(chunk[i], to, line, text, first, second, third, out);
+        i += 1;
+    }
+    line
+}
+
+// A last line that has no end is a line too.
+fn close(
+    to: i32,
+    line: Line,
+    text: &[u8],
+    first: &mut [u32],
+    second: &mut [u32],
+    third: &mut [u32],
+    out: &mut [u8],
+)
+    requires { ⌜ line .count ≤ length (now text) ⌝ }
+{
+    if 0 < line.count {
+        tell(to, line, text, first, second, third, out);
+    }
+}
+
+// As much as one read gives, so that a caller who waits for an answer has it.
+fn read_some(from: i32, chunk: &mut [u8]) -> usize
+    ensures { λ r. ⌜ r ≤ length (now (chunk .entry)) ⌝ }
+{
+    let got = libc::read(from, chunk);
+    io::count(got, chunk)
+}
+
+// A turn reads once and answers the lines that end there.
+struct Read {
+    line: Line,
+    ended: bool,
+}
+
+fn turn(
+    from: i32,
+    to: i32,
+    line: Line,
+    chunk: &mut [u8],
+    text: &mut [u8],
+    first: &mut [u32],
+    second: &mut [u32],
+    third: &mut [u32],
+    out: &mut [u8],
+) -> Read
+    requires { ⌜ line .count ≤ length (now text) ⌝ }
+    ensures { λ r. ⌜ r .line .count ≤ length (now (text .entry)) ⌝ }
+{
+    let n = read_some(from, chunk);
+    if n == 0 {
+        return Read { line, ended: true };
+    }
+    let after = feed(&chunk[..n], to, line, text, first, second, third, out);
+    Read {
+        line: after,
+        ended: false,
+    }
+}
+
+// The turns are counted down from more than can be taken, so that the loop is seen to end.
+fn fewer(turns: u64, ended: bool) -> u64
+    requires { ⌜ 0 < turns ⌝ }
+    ensures { λ r. ⌜ r < turns ⌝ }
+{
+    if ended {
+        return 0;
+    }
+    turns - 1
+}
+
+fn converse(
+    from: i32,
+    to: i32,
+    chunk: &mut [u8],
+    text: &mut [u8],
+    first: &mut [u32],
+    second: &mut [u32],
+    third: &mut [u32],
+    out: &mut [u8],
+) {
+    let mut line = Line {
+        count: 0,
+        long: false,
+    };
+    let mut turns: u64 = 18446744073709551615;
+    while 0 < turns {
+        let t = turn(from, to, line, chunk, text, first, second, third, out);
+        line = t.line;
+        turns = fewer(turns, t.ended);
+    }
+    close(to, line, text, first, second, third, out);
+}
+
+// Answers each line that `from` gives, on `to`. A line has at most 1,048,576 letters, a list at most 65,536 words.
+pub fn serve(from: i32, to: i32) {
+    let mut chunk = [0u8; 65536];
+    let mut text = [0u8; 1048576];
+    let mut first = [0u32; 65536];
+    let mut second = [0u32; 65536];
+    let mut third = [0u32; 65536];
+    let mut out = [0u8; 1048576];
+    converse(
+        from,
+        to,
+        &mut chunk,
+        &mut text,
+        &mut first,
+        &mut second,
+        &mut third,
+        &mut out,
+    );
+}
