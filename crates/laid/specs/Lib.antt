@@ -12,3 +12,4 @@ pub mod Sorted
 pub mod Numbered
 pub mod Accepts
 pub mod Answers
+pub mod Bases
