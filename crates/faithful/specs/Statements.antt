@@ -32,14 +32,14 @@ use lib.Dec.{eqb}
 use lib.ListN.{length}
 use Rattle.step.specs.Kinds.{STREAM, Input, in0, in1, in2, out1}
 use Rattle.step.specs.Machines.{rest}
-use Rattle.graph.specs.Below.{every, both-true, every-each, times, times-somewhere}
+use Rattle.graph.specs.Below.{every, every-each, times, times-somewhere}
 use Rattle.graph.specs.Graph.{nodeCount, wireCount, inputAt, inputOf, resultCount, resultAt, results, Node}
 use Rattle.graph.specs.Refusal.{graphRefusal}
 use Rattle.graph.specs.Accepted.{node-in-range}
 use Rattle.state.specs.Load.{loaded}
 use Rattle.state.specs.Net.{netOf, fire}
 use Rattle.state.specs.Run.{isFull, isResult, complete, othersEmpty, resultsFull, phasesZero, COMPLETE, SPENT, ZERO-STEP, outcome}
-use Rattle.confluence.specs.Statements.{Fires, AtRest, putOnWire, RestsAlike, every-order-rests-alike, runOf, enough-is-not-spent, run-is-an-order}
+use Rattle.confluence.specs.Statements.{Fires, AtRest, putOnWire, RestsAlike, every-order-rests-alike, runOf, madeBy, enough-is-not-spent, run-is-an-order}
 use Rattle.table.specs.Rows.{kindOf, size, FOR}
 use Rattle.table.specs.Check.{tableRefusal, answer}
 use Rattle.structure.specs.Structure.{Structure, passing-table-has-structure}
@@ -227,5 +227,5 @@ module _ (t : List ℕ) (checked : checkAnswer t .number ≡ 0) where
       → (list : List ℕ) (allowance : ℕ) → outcome (loweredWords t) (runOf (loweredWords t) list (loadedTable t inputs) allowance .state) .answer ≢ COMPLETE
   no-run-completes-a-fault inputs L openings r list allowance c =
       let m = run-is-an-order (loweredWords t) list (loadedTable t inputs) allowance (λ z. let y : COMPLETE ≡ SPENT = sym c ∙ z in omega arith) in
-      let z = zero-step-is-never-complete inputs L openings r (m .0) (runOf (loweredWords t) list (loadedTable t inputs) allowance .state) (m .1) (m .2) in
+      let z = zero-step-is-never-complete inputs L openings r (madeBy (loweredWords t) list (loadedTable t inputs) allowance) (runOf (loweredWords t) list (loadedTable t inputs) allowance .state) (m .0) (m .1) in
       let y : COMPLETE ≡ ZERO-STEP = sym c ∙ z in omega arith

@@ -17,7 +17,8 @@ use lib.ListN.{getElem?, getD}
 use Rattle.word.specs.Words.{flag}
 use Rattle.step.specs.Kinds.{STREAM, Input, in0, in1, in2}
 use Rattle.step.specs.Machines.{rest}
-use Rattle.graph.specs.Below.{every, both-true, every-each, joined, times, times-somewhere}
+use Rattle.graph.specs.Below.{every, every-each, joined, times, times-somewhere}
+use Rattle.step.specs.Kept.{and-true}
 use Rattle.graph.specs.Graph.{Node, nodeAt, nodeCount, wireCount, inputAt, inputOf, resultCount, resultAt, results}
 use Rattle.graph.specs.Refusal.{graphRefusal}
 use Rattle.graph.specs.Accepted.{node-in-range}
@@ -145,8 +146,8 @@ module _ (t : List ℕ) (S : Structure t) (ok : graphRefusal (loweredWords t) �
       go : (b : Bool) → complete g s ≡ b → b ≡ false
       go false e = refl
       go true e =
-          let p = both-true (resultsFull g s) (othersEmpty g s && phasesZero g s) e in
-          let o = both-true (othersEmpty g s) (phasesZero g s) (p .1) in
+          let p = and-true (resultsFull g s) (othersEmpty g s && phasesZero g s) e in
+          let o = and-true (othersEmpty g s) (phasesZero g s) (p .1) in
           let l = accepted-is-wired g ok .input-below (num t S (stream L)) in1 w (stream-input L (f .0) (f .1) (f .2) (f .3) (f .4) (f .5) in1) in
           absurd (by (isResult g w) refl (every-each (λ x. isResult g x || not (isFull s x)) (wireCount g) (o .0) w l))
         where
