@@ -29,3 +29,4 @@ pub mod Endings
 pub mod Faults
 pub mod Waiting
 pub mod Statements
+pub mod NotIdle
