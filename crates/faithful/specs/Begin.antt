@@ -6,22 +6,22 @@
 --
 -- Assumes nothing.
 use mathlib.Core.Path.{_≡_, refl, sym, ap, ap₂, _∙_, subst}
-use mathlib.Core.Logic.{_≢_, _⊎_, inl, inr}
+use mathlib.Core.Logic.{_≢_, inl, inr}
 use mathlib.Core.Bool.{Bool, true, false}
 use mathlib.Core.Option.{Option, none, some}
 use mathlib.Core.List.{List, [], _∷_, _++_}
 use Prim.Native.Nat.{ℕ, zero, suc, _+_, _≤_, _<_}
 use native.Mathlib.Omega.{arith}
 use native.Mathlib.Decide.{ℕ-discrete}
-use Rattle.step.specs.Kinds.{Input, in0, in1, in2, Output, out0, out1}
+use Rattle.step.specs.Kinds.{Output, out0, out1}
 use Rattle.step.specs.Machines.{rest}
-use Rattle.lowered.specs.Roles.{Role, opNode, stream, gate, guard, copySplit, copyInvariant, carry, argSplit, Wire, start, output, Use, into, result}
 use Rattle.state.specs.Net.{Net}
+use Rattle.lowered.specs.Roles.{Role, opNode, stream, gate, guard, copySplit, copyInvariant, carry, argSplit, Wire, start, output, Use}
 use Rattle.uses.specs.Machine.{State}
 use Rattle.uses.specs.Wires.{Tokens, Steps2, steps2-append, puts2, puts2-append, Has, Once, Spreads, spread}
-use Rattle.uses.specs.Layout.{Layout, Made, Tree, UseOf, Shown, port-tree, use-tree, among-use}
-use Rattle.faithful.specs.Table.{Table, Slot, val, inner, isIn, IsFor, wireOf, slot, slotWire, src, Real, plan}
-use Rattle.faithful.specs.Good.{Good, Source, wStart, wOp, wFor, wArg, wNxt, wInv, source, Inward, nGate0, nGate1, nSplit, nInv0, nInv1, nCarry, nArg0, nArg1, inward}
+use Rattle.uses.specs.Layout.{Layout, Made, Tree, UseOf, Shown, use-in-tree, use-tree, among-use}
+use Rattle.faithful.specs.Table.{Table, Slot, val, isIn, IsFor, wireOf, slot, slotWire, src, Real, plan}
+use Rattle.faithful.specs.Good.{Good, Source, fromStart, fromOp, fromFor, fromArg, fromNext, fromCopy, source, Inward, gateIndex, gateCondition, splitGuard, copyCondition, copySeed, carryCondition, argCondition, argCarried, inward}
 use Rattle.faithful.specs.Gamma.{Env, Live, Inside, Shows, scope, held, Gamma, shows-none, shows-some}
 
 module _ (tb : Table) (net : Net) (y : Layout (plan tb) net) (env : Env) where
@@ -58,7 +58,7 @@ module _ (tb : Table) (net : Net) (y : Layout (plan tb) net) (env : Env) where
       onward B u =
           record {
             done-hit = λ v l mv x t. elim (ℕ-discrete v m) [
-              | yes e ↦ u .ports x (subst (λ (z : ℕ). UseOf (plan tb) net y x (start z)) e t) ∙ ap (λ (z : ℕ). some (env z)) (sym e)
+              | yes e ↦ u .reached x (subst (λ (z : ℕ). UseOf (plan tb) net y x (start z)) e t) ∙ ap (λ (z : ℕ). some (env z)) (sym e)
               | no e ↦ same v mv e x (use-tree (plan tb) net y x (start v) mv t) ∙ b .done-hit v (omega arith) mv x t
             ];
             done-miss = λ v l mv x t k. elim (ℕ-discrete v m) [
@@ -125,16 +125,16 @@ module _ (tb : Table) (net : Net) (y : Layout (plan tb) net) (env : Env) where
   pub shown0 : (Z : Tokens) → Begun (tb .size) Z → Shown (plan tb) net y Z state0
   shown0 Z b =
       record {
-        at-port = λ p w h. port p w h ∙ ap startTok (sym h);
+        at-use = λ p w h. use-token p w h ∙ ap startTok (sym h);
         between = between′;
         at-node = λ n rl. b .idle (y .num n);
         at-fork = λ w m j h. b .idle j;
         nowhere = λ p h. ap startTok h;
       }
     where
-      port : (p : Use) (w : Wire) → src tb p ≡ some w → Z .wt (y .pw p) ≡ startTok (some w)
-      port p (start v) h = let u = y .users-full p (start v) h in b .done-hit v (u .1 .0) (u .1) (y .pw p) (among-use (plan tb) net y p (y .users (start v)) (u .0))
-      port p (output n o) h = let u = y .users-full p (output n o) h in b .inner-wires n o (u .1) (y .pw p) (port-tree (plan tb) net y p (output n o) h)
+      use-token : (p : Use) (w : Wire) → src tb p ≡ some w → Z .wt (y .pw p) ≡ startTok (some w)
+      use-token p (start v) h = let u = y .users-full p (start v) h in b .done-hit v (u .1 .0) (u .1) (y .pw p) (among-use (plan tb) net y p (y .users (start v)) (u .0))
+      use-token p (output n o) h = let u = y .users-full p (output n o) h in b .inner-wires n o (u .1) (y .pw p) (use-in-tree (plan tb) net y p (output n o) h)
 
       between′ : (w : Wire) → Made (plan tb) w → (x : ℕ) → Tree (plan tb) net y x w → (UseOf (plan tb) net y x w → ⊥) → Z .wt x ≡ none
       between′ (start v) m x t k = b .done-miss v (m .0) m x t k
@@ -143,21 +143,21 @@ module _ (tb : Table) (net : Net) (y : Layout (plan tb) net) (env : Env) where
   pub gamma0 : Good tb → Gamma tb 0 env state0
   gamma0 g =
       record {
-        vals = λ p v B c q. go p v B c q (source tb v B);
-        inns = λ p w q. ap (λ (z : Slot). startTok (slotWire tb z)) q ∙ inner-none p w (inward tb p w q);
-        recs-in = λ n rl l. rin n rl l;
-        recs-out = λ n rl l. refl;
+        values = λ p v B c q. go p v B c q (source tb v B);
+        inners = λ p w q. ap (λ (z : Slot). startTok (slotWire tb z)) q ∙ inner-none p w (inward tb p w q);
+        records-in = λ n rl l. rin n rl l;
+        records-out = λ n rl l. refl;
       }
     where
       inner-none : (p : Use) (w : Wire) → Inward tb p w → startTok (some w) ≡ none
-      inner-none p w (nGate0 L a b fr) = ap (λ (z : Wire). startTok (some z)) b
-      inner-none p w (nGate1 L a b fr) = ap (λ (z : Wire). startTok (some z)) b
-      inner-none p w (nSplit L v a b c) = ap (λ (z : Wire). startTok (some z)) b
-      inner-none p w (nInv0 L v a b c) = ap (λ (z : Wire). startTok (some z)) b
-      inner-none p w (nInv1 L v a b c) = ap (λ (z : Wire). startTok (some z)) b
-      inner-none p w (nCarry a i b c d) = ap (λ (z : Wire). startTok (some z)) c
-      inner-none p w (nArg0 a b c d) = ap (λ (z : Wire). startTok (some z)) c
-      inner-none p w (nArg1 a b c d) = ap (λ (z : Wire). startTok (some z)) c
+      inner-none p w (gateIndex L a b fr) = ap (λ (z : Wire). startTok (some z)) b
+      inner-none p w (gateCondition L a b fr) = ap (λ (z : Wire). startTok (some z)) b
+      inner-none p w (splitGuard L v a b c) = ap (λ (z : Wire). startTok (some z)) b
+      inner-none p w (copyCondition L v a b c) = ap (λ (z : Wire). startTok (some z)) b
+      inner-none p w (copySeed L v a b c) = ap (λ (z : Wire). startTok (some z)) b
+      inner-none p w (carryCondition a i b c d) = ap (λ (z : Wire). startTok (some z)) c
+      inner-none p w (argCondition a b c d) = ap (λ (z : Wire). startTok (some z)) c
+      inner-none p w (argCarried a b c d) = ap (λ (z : Wire). startTok (some z)) c
 
       no-loop : (B : ℕ) → IsFor tb B → tb .first B ≤ 0 → ⊥
       no-loop B f l = let a = g .for-first B f in omega arith
@@ -176,11 +176,11 @@ module _ (tb : Table) (net : Net) (y : Layout (plan tb) net) (env : Env) where
       off p v B c w q e h n = shows-none tb (state0 .tok p) v B c 0 env (ap (λ (z : Slot). startTok (slotWire tb z)) q ∙ ap (λ (z : Wire). startTok (some z)) e ∙ h) n
 
       go : (p : Use) (v B c : ℕ) → slot tb p ≡ val v B c → Source tb v B → Shows tb (state0 .tok p) v B c 0 env
-      go p v B c q (wStart w h t z) =
+      go p v B c q (fromStart w h t z) =
           let e : tb .first B ≡ 0 = ap (tb .first) (sym h ∙ g .start-home v t) ∙ g .outer-first in
           shows-some tb (state0 .tok p) v B c 0 env (ap (λ (z : Slot). startTok (slotWire tb z)) q ∙ ap (λ (z : Wire). startTok (some z)) w) (omega arith, omega arith, omega arith, omega arith)
-      go p v B c q (wOp w h t z) = off p v B c (output (opNode v) out0) q w refl (λ l. let l2 = l .2 in omega arith)
-      go p v B c q (wFor w h t z) = off p v B c (output (gate v) out0) q w refl (λ l. no-loop B (subst (IsFor tb) (sym (g .for-home v t) ∙ h) t) (l .0))
-      go p v B c q (wArg i w h t z) = off p v B c (output (argSplit v) out0) q w refl (λ l. no-loop B (subst (IsFor tb) (sym (g .arg-home v i t) ∙ h) (g .arg-for v i t)) (l .0))
-      go p v B c q (wNxt x w h t z) = off p v B c (output (argSplit (tb .argOf v)) out1) q w refl (λ l. let l2 = l .2 in omega arith)
-      go p v B c q (wInv w h z) = off p v B c (output (copyInvariant B v) out0) q w refl (λ l. no-loop B (g .in-for B v (g .uses p v B c q .away h)) (l .0))
+      go p v B c q (fromOp w h t z) = off p v B c (output (opNode v) out0) q w refl (λ l. let l2 = l .2 in omega arith)
+      go p v B c q (fromFor w h t z) = off p v B c (output (gate v) out0) q w refl (λ l. no-loop B (subst (IsFor tb) (sym (g .for-home v t) ∙ h) t) (l .0))
+      go p v B c q (fromArg i w h t z) = off p v B c (output (argSplit v) out0) q w refl (λ l. no-loop B (subst (IsFor tb) (sym (g .arg-home v i t) ∙ h) (g .arg-for v i t)) (l .0))
+      go p v B c q (fromNext x w h t z) = off p v B c (output (argSplit (tb .argOf v)) out1) q w refl (λ l. let l2 = l .2 in omega arith)
+      go p v B c q (fromCopy w h z) = off p v B c (output (copyInvariant B v) out0) q w refl (λ l. no-loop B (g .in-for B v (g .uses p v B c q .away h)) (l .0))

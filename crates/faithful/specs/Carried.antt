@@ -10,25 +10,23 @@
 -- Assumes nothing.
 use mathlib.Core.Path.{_≡_, refl, sym, ap, _∙_, subst}
 use mathlib.Core.Logic.{_≢_, _⊎_, inl, inr}
-use mathlib.Core.Bool.{Bool, true, false, cond, not, _&&_, _||_}
-use mathlib.Core.List.{List, []}
-use Prim.Native.Nat.{ℕ, zero, suc, _+_, _*_, _≤_, _<_}
+use mathlib.Core.Bool.{Bool, true, false, not, _&&_, _||_}
+use mathlib.Core.List.{List}
+use Prim.Native.Nat.{ℕ, zero, suc, _≤_, _<_}
 use native.Mathlib.Omega.{arith}
-use native.Mathlib.Decide.{decLt, decLe, ℕ-discrete}
-use borrow.Author.Tests.{lt-ltb, le-ltb, eq-eqb, ne-eqb, eqb-true}
-use lib.Dec.{eqb, leb, ltb}
-use Rattle.step.specs.Kinds.{Input, in0, in1, in2}
-use Rattle.table.specs.Rows.{kindOf, word, size, operandCount, firstOperand}
+use native.Mathlib.Decide.{decLt, ℕ-discrete}
+use borrow.Author.Tests.{eq-eqb, eqb-true}
+use lib.Dec.{eqb}
+use Rattle.table.specs.Rows.{kindOf, size, operandCount}
 use Rattle.table.specs.Scan.{stackAt, bodyOf, reads, home, holds}
-use Rattle.table.specs.Bodies.{Row, input, const, op, pick, for, arg, next, end, out, unknown, rowAt, operand, endOf, firstOf, argOf, nextOf}
+use Rattle.table.specs.Bodies.{operand, endOf, firstOf}
 use Rattle.structure.specs.Spans.{Encloses, same, inside, outermost}
-use Rattle.structure.specs.Structure.{Structure, InLoop}
+use Rattle.structure.specs.Structure.{Structure}
 use Rattle.lowered.specs.Gathered.{some?}
-use Rattle.lowered.specs.Roles.{Role, opNode, stream, gate, guard, copySplit, copyInvariant, carry, argSplit, Use, into, result}
-use Rattle.lowered.specs.Sources
 use Rattle.lowered.specs.Sources.{isFor, carried, names}
-use Rattle.faithful.specs.Table.{Table, Slot, val, inner, absent, named, IsFor, bornBy, sinceBy, born, since, slot, opSlot, streamSlot, guardSlot, gateSlot, copySplitSlot, copyInvariantSlot, carrySlot, argSplitSlot, resultSlot, isOp, isStart, isIn, isArg, isForRow}
-use Rattle.faithful.specs.Good.{Inner, Used, Good}
+use Rattle.lowered.specs.Sources
+use Rattle.faithful.specs.Table.{Table, IsFor}
+use Rattle.faithful.specs.Good.{Inner}
 use Rattle.faithful.specs.Tables
 
 -- ---- tests

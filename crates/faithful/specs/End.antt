@@ -1,31 +1,35 @@
--- The steps of END: another turn, or the loop is left.
+-- The steps of END.
+--
+--   step-again                another turn: each CARRY takes `b` and STREAM gives a pair; GATE gives index and condition, each CARRY takes `d`, each
+--                             ARG's SPLIT gives it; each INVARIANT gives its word again
+--   step-leave                the loop is left: STREAM gives its last pair, the ARGs' SPLITs give the exit words, and GATE's last false clears
+--                             each INVARIANT
+--
+-- The first stage empties the CARRYs' `b` uses before GATE and SPLIT refill the body.
 -- Assumes nothing.
-use mathlib.Core.Path.{_≡_, refl, sym, ap, ap₂, _∙_, subst, subst₂}
-use mathlib.Core.Logic.{_≢_, _⊎_, inl, inr}
+use mathlib.Core.Path.{_≡_, refl, sym, ap, _∙_, subst}
+use mathlib.Core.Logic.{_≢_, inl, inr}
 use mathlib.Core.Bool.{Bool, true, false}
 use mathlib.Core.Option.{Option, none, some}
-use mathlib.Core.List.{List, [], _∷_, _++_}
-use Prim.Native.Nat.{ℕ, zero, suc, _+_, _*_, _≤_, _<_}
+use mathlib.Core.List.{[], _∷_}
+use Prim.Native.Nat.{ℕ, suc, _≤_, _<_}
 use native.Mathlib.Omega.{arith}
-use native.Mathlib.Decide.{ℕ-discrete, decLe}
-use lib.Dec.{T, eqb, eqb→eq, eqb-refl}
-use mir.Facts.{yes-eqb}
-use Rattle.word.specs.Words.{condition, update, operate}
-use Rattle.step.specs.Kinds.{Input, in0, in1, in2, Output, out0, out1, STREAM, GATE, CARRY, INVARIANT, SPLIT, OP, PICK}
-use Rattle.step.specs.Firing.{View, Effect, Program, stop, give, ask, perform, gives, takes, waits, room, fillable}
-use Rattle.step.specs.Machines.{program, rest, inPhase, holding, whether}
-use Rattle.step.specs.Locality.{every-program-is-local, asking-inv, giving-inv, taking-gives}
-use Rattle.step.specs.declared.Record.{Record}
-use Rattle.table.specs.Bodies.{Row, input, const, op, pick, for, arg, next, end, out, unknown}
-use Rattle.lowered.specs.Roles.{Role, sameRole, opNode, stream, gate, guard, copySplit, copyInvariant, carry, argSplit, Wire, start, output, Use, into, result}
-use Rattle.uses.specs.Machine.{Plan, State, giveBy, takeBy, nextBy, put, drop, listed, given, taken, viewOf, Among, Once, after, one, one-same, one-other, Ready, Steps, steps-append, stage-cover, those}
-use Rattle.faithful.specs.Table.{Table, Slot, val, inner, absent, named, IsFor, wireOf, born, since, slot, slotWire, src, isOp, isStart, isArg, Real, progOf, streamProg, plan}
-use Rattle.faithful.specs.Good.{Inner, Used, Good, Source, wStart, wOp, wFor, wArg, wNxt, wInv, source, ForPort, fStream, fGuard, fSplit, fCarry, When, byOp, byFor, byEnd, byOut, when, Inward, nGate0, nGate1, nSplit, nInv0, nInv1, nCarry, nArg0, nArg1, inward}
-use Rattle.faithful.specs.Gamma.{Env, streamHeld, Live, Inside, Shows, scope, held, Gamma, shows-same, shows-none, shows-some, Rel, before, behind, inside, around, for-not-end, rel, head-row, since-head, since-in, since-own, held-same}
-use Rattle.faithful.specs.StepOp.{setTo, set-same, set-other, sight, runs-by, put-drop-none, body-quiet, real-body, recs-same, since-row, src-cases, token-at, Path, silent, choose}
-use Rattle.faithful.specs.Loop.{inLoop, only, only-yes, only-no, only-some, arg-row, in-two, in-arg, two-in, arg-in, two-out, eqb-yes, eqb-no, is-eqb, loop-stage, for-below, reads-not, Fill, fIdx, fArg, fInv, fExit, fNone, fill, Taking, tFor, tEnd, tNone, takes-yes, takes-no, taking}
-use Rattle.faithful.specs.Stages.{Table3, Eight, gate0, gate1, split0, inv0, inv1, carry0, arg0, arg1, node8, in8, from8, out8, mem8, slot8, flow, tokv, own-in, by-role, real-in, ready-all, Runs, to-runs, S1, S2, S3, at1, at2, at3, inner3, room2, room3, val3, own2, own3, own-still, fired3, hist3, sayIf}
-use Rattle.faithful.specs.Turn.{eff, isNxt, argsTo, nextsTo, args-same, args-other, nexts-same, nexts-other, nxt-row, turnEnv, since-born, turn-low, turn-idx, turn-arg, turn-same, leave-low, leave-same, live-open, inside-open, since-home, live-none, live-again, live-leave, inside-none, inside-again, inside-leave, outer-first-le, outer-leave, scope-not, g-none, no-gift}
+use native.Mathlib.Decide.{decLe}
+use lib.Dec.{eqb}
+use Rattle.word.specs.Words.{condition, update}
+use Rattle.step.specs.Kinds.{Input, in0, in1, in2, out1}
+use Rattle.step.specs.Firing.{Effect, perform}
+use Rattle.step.specs.Machines.{rest, inPhase, holding}
+use Rattle.table.specs.Bodies.{Row, for, arg, next}
+use Rattle.lowered.specs.Roles.{Role, opNode, stream, gate, guard, copySplit, copyInvariant, carry, argSplit, Use, into}
+use Rattle.uses.specs.Machine.{State, giveBy, takeBy, nextBy, put, drop, given, taken, Ready}
+use Rattle.faithful.specs.Table.{Table, val, named, IsFor, wireOf, since, slot, isArg, Real, programOf, streamProgram, plan}
+use Rattle.faithful.specs.Good.{Inner, Used, Good, ForUse, intoStream, intoGuard, intoSplit, intoCarry}
+use Rattle.faithful.specs.Gamma.{Env, streamHeld, Inside, Shows, scope, held, Gamma, shows-same, shows-none, shows-some, Rel, before, behind, inside, around, for-not-end, rel, since-own}
+use Rattle.faithful.specs.Rows.{sight, runs-by, put-drop-none, real-body, recs-same, token-at, Path}
+use Rattle.faithful.specs.Loop.{inLoop, only, two-in, arg-in, eqb-yes, reads-not, Fill, fillsIndex, fillsArg, fillsCopy, fillsExit, fillsNone, fill, Taking, takenByFor, takenByEnd, takenByNone, takes-yes, taking}
+use Rattle.faithful.specs.Stages.{Effects, Inlet, gate0, gate1, split0, inv0, inv1, carry0, arg0, arg1, inletFrom, inletOutput, flow, tokv, own-in, by-role, ready-all, Runs, to-runs, S1, S2, S3, at1, at2, inner3, room2, room3, own2, own3, own-still, fired3, hist3, sayIf}
+use Rattle.faithful.specs.Turn.{eff, isNext, nextsTo, nexts-same, turnEnv, turn-low, turn-idx, turn-arg, turn-same, leave-low, leave-same, live-again, live-leave, inside-again, inside-leave, outer-first-le, outer-leave, scope-not, g-none, no-gift}
 use Rattle.faithful.specs.For.{pair-yes, pair-no}
 
 module _ (tb : Table) (g : Good tb) (L s t b u c : ℕ) (q : tb .row L ≡ for s t b u c) (env : Env) (σ : State) (G : Gamma tb (tb .last L) env σ) where
@@ -40,7 +44,7 @@ module _ (tb : Table) (g : Good tb) (L s t b u c : ℕ) (q : tb .row L ≡ for s
   news a = env (named (tb .row (tb .nextOf a)))
 
   -- another turn
-  abbrev a1 : Table3
+  abbrev a1 : Effects
   a1 (opNode r) = none
   a1 (stream M) = eff false false false (some index) (some 1) (holding (update u index (env t)) (env t) (env b))
   a1 (gate M) = none
@@ -50,7 +54,7 @@ module _ (tb : Table) (g : Good tb) (L s t b u c : ℕ) (q : tb .row L ≡ for s
   a1 (carry a) = eff false false true (some (news a)) none (inPhase 1)
   a1 (argSplit a) = none
 
-  abbrev a2 : Table3
+  abbrev a2 : Effects
   a2 (opNode r) = none
   a2 (stream M) = none
   a2 (gate M) = eff true true false (some index) (some 1) (inPhase 1)
@@ -60,7 +64,7 @@ module _ (tb : Table) (g : Good tb) (L s t b u c : ℕ) (q : tb .row L ≡ for s
   a2 (carry a) = eff true false false none none (inPhase 2)
   a2 (argSplit a) = eff true true false (some (news a)) none rest
 
-  abbrev a3 : Table3
+  abbrev a3 : Effects
   a3 (opNode r) = none
   a3 (stream M) = none
   a3 (gate M) = none
@@ -71,7 +75,7 @@ module _ (tb : Table) (g : Good tb) (L s t b u c : ℕ) (q : tb .row L ≡ for s
   a3 (argSplit a) = none
 
   -- none
-  abbrev l1 : Table3
+  abbrev l1 : Effects
   l1 (opNode r) = none
   l1 (stream M) = eff false false false (some index) (some 0) rest
   l1 (gate M) = none
@@ -81,7 +85,7 @@ module _ (tb : Table) (g : Good tb) (L s t b u c : ℕ) (q : tb .row L ≡ for s
   l1 (carry a) = eff false false true (some (news a)) none (inPhase 1)
   l1 (argSplit a) = none
 
-  abbrev l2 : Table3
+  abbrev l2 : Effects
   l2 (opNode r) = none
   l2 (stream M) = none
   l2 (gate M) = eff true true false none (some 0) rest
@@ -91,7 +95,7 @@ module _ (tb : Table) (g : Good tb) (L s t b u c : ℕ) (q : tb .row L ≡ for s
   l2 (carry a) = eff true false false none none rest
   l2 (argSplit a) = eff true true false none (some (news a)) rest
 
-  abbrev l3 : Table3
+  abbrev l3 : Effects
   l3 (opNode r) = none
   l3 (stream M) = none
   l3 (gate M) = none
@@ -113,18 +117,18 @@ module _ (tb : Table) (g : Good tb) (L s t b u c : ℕ) (q : tb .row L ≡ for s
   rests n rl h =
       elim (decLe (tb .first (scope tb n)) (tb .last L)) [
         | yes x ↦ elim (decLe (tb .last L) (tb .last (scope tb n))) [
-          | yes y ↦ G .recs-in n rl (x, y) ∙ h
-          | no y ↦ G .recs-out n rl (λ l. y (l .1))
+          | yes y ↦ G .records-in n rl (x, y) ∙ h
+          | no y ↦ G .records-out n rl (λ l. y (l .1))
         ]
-        | no x ↦ G .recs-out n rl (λ l. x (l .0))
+        | no x ↦ G .records-out n rl (λ l. x (l .0))
       ]
 
   -- the loop's nodes hold what they hold inside
   busy : (n : Role) → inLoop tb L n ≡ true → σ .own n ≡ held tb n env
   busy =
-      by-role tb g L isfor (λ (n : Role). σ .own n ≡ held tb n env) (G .recs-in (stream L) isfor in-last) (G .recs-in (gate L) isfor in-last) (rests (guard L) isfor refl)
-      (λ v h. rests (copySplit L v) (isfor, h) refl) (λ v h. G .recs-in (copyInvariant L v) (isfor, h) in-last)
-      (λ a i h l. G .recs-in (carry a) (i, h) (subst (λ (z : ℕ). Inside tb z (tb .last L)) (sym l) in-last)) (λ a i h l. rests (argSplit a) (i, h) refl)
+      by-role tb g L isfor (λ (n : Role). σ .own n ≡ held tb n env) (G .records-in (stream L) isfor in-last) (G .records-in (gate L) isfor in-last) (rests (guard L) isfor refl)
+      (λ v h. rests (copySplit L v) (isfor, h) refl) (λ v h. G .records-in (copyInvariant L v) (isfor, h) in-last)
+      (λ a i h l. G .records-in (carry a) (i, h) (subst (λ (z : ℕ). Inside tb z (tb .last L)) (sym l) in-last)) (λ a i h l. rests (argSplit a) (i, h) refl)
 
   stream-own : σ .own (stream L) ≡ holding index (env t) (env b)
   stream-own = busy (stream L) in-stream ∙ ap (λ (z : Row). streamHeld z L env) q
@@ -148,18 +152,18 @@ module _ (tb : Table) (g : Good tb) (L s t b u c : ℕ) (q : tb .row L ≡ for s
       let us = g .uses p v B d h in
       let hi : d ≤ tb .last B = us .place .high in
       let le : tb .last B ≡ tb .last L = ap (tb .last) e in
-      G .vals p v B d h .off (λ l. let l3 : tb .last L ≤ d = l .3 in omega arith)
+      G .values p v B d h .off (λ l. let l3 : tb .last L ≤ d = l .3 in omega arith)
 
   -- ---- another turn
   module _ (k : ℕ) (turn : condition c index (env b) ≡ suc k) where
     abbrev A1 : State
-    A1 = S1 tb g L isfor a1 a2 a3 σ (G .inns)
+    A1 = S1 tb g L isfor a1 a2 a3 σ (G .inners)
 
     abbrev A2 : State
-    A2 = S2 tb g L isfor a1 a2 a3 σ (G .inns)
+    A2 = S2 tb g L isfor a1 a2 a3 σ (G .inners)
 
     abbrev pub A3 : State
-    A3 = S3 tb g L isfor a1 a2 a3 σ (G .inns)
+    A3 = S3 tb g L isfor a1 a2 a3 σ (G .inners)
 
     Ag1 : (p : Use) (v B d : ℕ) → slot tb p ≡ val v B d → given (only tb L a1) (some (wireOf tb v B)) ≡ none
     Ag1 p v B d h = g-none tb g L isfor a1 refl (λ _. refl) (λ _. refl) (λ _. refl) v B (fills p v B d h)
@@ -167,50 +171,50 @@ module _ (tb : Table) (g : Good tb) (L s t b u c : ℕ) (q : tb .row L ≡ for s
     Aruns1 : (n : Role) → inLoop tb L n ≡ true → Runs tb g L isfor a1 σ n
     Aruns1 =
         by-role tb g L isfor (Runs tb g L isfor a1 σ)
-        (inr (runs-by (progOf tb (stream L)) σ (stream L) (σ .tok (into (stream L) in0)) (σ .tok (into (stream L) in1)) (σ .tok (into (stream L) in2)) (holding index (env t) (env b))
+        (inr (runs-by (programOf tb (stream L)) σ (stream L) (σ .tok (into (stream L) in0)) (σ .tok (into (stream L) in1)) (σ .tok (into (stream L) in2)) (holding index (env t) (env b))
         (record { takes0 = false; takes1 = false; takes2 = false; gives0 = some index; gives1 = some 1; next = holding (update u index (env t)) (env t) (env b) }) refl refl refl stream-own
-        (ap (λ (z : Row). perform (streamProg z (holding index (env t) (env b))) (sight (σ .tok (into (stream L) in0)) (σ .tok (into (stream L) in1)) (σ .tok (into (stream L) in2)) (holding index (env t) (env b)))) q
+        (ap (λ (z : Row). perform (streamProgram z (holding index (env t) (env b))) (sight (σ .tok (into (stream L) in0)) (σ .tok (into (stream L) in1)) (σ .tok (into (stream L) in2)) (holding index (env t) (env b)))) q
         ∙ pair-yes u c index (env t) (env b) k (σ .tok (into (stream L) in0)) (σ .tok (into (stream L) in1)) (σ .tok (into (stream L) in2)) (g .for-code L s t b u c q) turn)))
         (inl refl) (inl refl) (λ v h. inl refl) (λ v h. inl refl)
-        (λ a i h l. inr (runs-by (progOf tb (carry a)) σ (carry a) (σ .tok (into (carry a) in0)) (σ .tok (into (carry a) in1)) (some (news a)) (inPhase 2) (record { takes0 = false; takes1 = false; takes2 = true; gives0 = some (news a); gives1 = none; next = inPhase 1 })
+        (λ a i h l. inr (runs-by (programOf tb (carry a)) σ (carry a) (σ .tok (into (carry a) in0)) (σ .tok (into (carry a) in1)) (some (news a)) (inPhase 2) (record { takes0 = false; takes1 = false; takes2 = true; gives0 = some (news a); gives1 = none; next = inPhase 1 })
         refl refl (carry-token a i h l) (busy (carry a) (arg-in tb L a l (ap isArg h))) refl))
         (λ a i h l. inl refl)
 
     Aready1 : (n : Role) (d : Effect) → inLoop tb L n ≡ true → a1 n ≡ some d → Ready (plan tb) n d σ
     Aready1 =
-        ready-all tb g L isfor a1 σ (to-runs tb g L isfor a1 σ Aruns1) (λ p w y h k. G .inns p w h)
+        ready-all tb g L isfor a1 σ (to-runs tb g L isfor a1 σ Aruns1) (λ p w y h k. G .inners p w h)
         (λ p v B d y h k. no-gift tb g L isfor (given (only tb L a1) (some (wireOf tb v B))) y (Ag1 p v B d h) k)
 
-    -- a value's port after stage 1
+    -- a value's use after stage 1
     Aval1 : (p : Use) (v B d : ℕ) → slot tb p ≡ val v B d → A1 .tok p ≡ drop (taken (only tb L a1) p) (σ .tok p)
     Aval1 p v B d h = tokv tb g L isfor a1 σ p v B d h ∙ ap (λ (x : Option ℕ). put x (drop (taken (only tb L a1) p) (σ .tok p))) (Ag1 p v B d h)
 
-    -- the body's ports are empty then
+    -- the body's uses are empty then
     Abody1 : (p : Use) (v B d : ℕ) → slot tb p ≡ val v B d → B ≡ L → A1 .tok p ≡ none
     Abody1 p v B d h e = Aval1 p v B d h ∙ go (taking tb g L isfor p v B d h)
       where
         go : Taking tb g L isfor p B d → drop (taken (only tb L a1) p) (σ .tok p) ≡ none
-        go (tFor x y z) = absurd (reads-not tb g L isfor (sym z ∙ e))
-        go (tEnd a i x m l y z) = ap (λ (w : Bool). drop w (σ .tok p)) (takes-yes tb g L isfor p (carry a) in2 x (arg-in tb L a l (ap isArg m)) a1)
-        go (tNone x y z) = dropped (taken (only tb L a1) p) (σ .tok p) (body-done p v B d h e y)
+        go (takenByFor x y z) = absurd (reads-not tb g L isfor (sym z ∙ e))
+        go (takenByEnd a i x m l y z) = ap (λ (w : Bool). drop w (σ .tok p)) (takes-yes tb g L isfor p (carry a) in2 x (arg-in tb L a l (ap isArg m)) a1)
+        go (takenByNone x y z) = dropped (taken (only tb L a1) p) (σ .tok p) (body-done p v B d h e y)
 
     Aruns2 : (n : Role) → inLoop tb L n ≡ true → Runs tb g L isfor a2 A1 n
     Aruns2 =
         by-role tb g L isfor (Runs tb g L isfor a2 A1)
         (inl refl)
-        (inr (runs-by (progOf tb (gate L)) A1 (gate L) (some index) (some 1) (A1 .tok (into (gate L) in2)) (inPhase 1) (record { takes0 = true; takes1 = true; takes2 = false; gives0 = some index; gives1 = some 1; next = inPhase 1 })
-        (at1 tb g L isfor a1 a2 a3 σ (G .inns) gate0 tt) (at1 tb g L isfor a1 a2 a3 σ (G .inns) gate1 tt) refl (own-in tb g L isfor a1 σ (gate L) in-stream ∙ busy (gate L) in-stream) refl))
+        (inr (runs-by (programOf tb (gate L)) A1 (gate L) (some index) (some 1) (A1 .tok (into (gate L) in2)) (inPhase 1) (record { takes0 = true; takes1 = true; takes2 = false; gives0 = some index; gives1 = some 1; next = inPhase 1 })
+        (at1 tb g L isfor a1 a2 a3 σ (G .inners) gate0 tt) (at1 tb g L isfor a1 a2 a3 σ (G .inners) gate1 tt) refl (own-in tb g L isfor a1 σ (gate L) in-stream ∙ busy (gate L) in-stream) refl))
         (inl refl) (λ v h. inl refl) (λ v h. inl refl)
-        (λ a i h l. inr (runs-by (progOf tb (carry a)) A1 (carry a) (some 1) (A1 .tok (into (carry a) in1)) (A1 .tok (into (carry a) in2)) (inPhase 1) (record { takes0 = true; takes1 = false; takes2 = false; gives0 = none; gives1 = none; next = inPhase 2 })
-        (at1 tb g L isfor a1 a2 a3 σ (G .inns) (carry0 a) (l, ap isArg h)) refl refl (own-in tb g L isfor a1 σ (carry a) (arg-in tb L a l (ap isArg h))) refl))
-        (λ a i h l. inr (runs-by (progOf tb (argSplit a)) A1 (argSplit a) (some 1) (some (news a)) (A1 .tok (into (argSplit a) in2)) rest (record { takes0 = true; takes1 = true; takes2 = false; gives0 = some (news a); gives1 = none; next = rest })
-        (at1 tb g L isfor a1 a2 a3 σ (G .inns) (arg0 a) (l, ap isArg h)) (at1 tb g L isfor a1 a2 a3 σ (G .inns) (arg1 a) (l, ap isArg h)) refl (own-in tb g L isfor a1 σ (argSplit a) (arg-in tb L a l (ap isArg h)) ∙ busy (argSplit a) (arg-in tb L a l (ap isArg h))) refl))
+        (λ a i h l. inr (runs-by (programOf tb (carry a)) A1 (carry a) (some 1) (A1 .tok (into (carry a) in1)) (A1 .tok (into (carry a) in2)) (inPhase 1) (record { takes0 = true; takes1 = false; takes2 = false; gives0 = none; gives1 = none; next = inPhase 2 })
+        (at1 tb g L isfor a1 a2 a3 σ (G .inners) (carry0 a) (l, ap isArg h)) refl refl (own-in tb g L isfor a1 σ (carry a) (arg-in tb L a l (ap isArg h))) refl))
+        (λ a i h l. inr (runs-by (programOf tb (argSplit a)) A1 (argSplit a) (some 1) (some (news a)) (A1 .tok (into (argSplit a) in2)) rest (record { takes0 = true; takes1 = true; takes2 = false; gives0 = some (news a); gives1 = none; next = rest })
+        (at1 tb g L isfor a1 a2 a3 σ (G .inners) (arg0 a) (l, ap isArg h)) (at1 tb g L isfor a1 a2 a3 σ (G .inners) (arg1 a) (l, ap isArg h)) refl (own-in tb g L isfor a1 σ (argSplit a) (arg-in tb L a l (ap isArg h)) ∙ busy (argSplit a) (arg-in tb L a l (ap isArg h))) refl))
 
     Aready2 : (n : Role) (d : Effect) → inLoop tb L n ≡ true → a2 n ≡ some d → Ready (plan tb) n d A1
     Aready2 =
-        ready-all tb g L isfor a2 A1 (to-runs tb g L isfor a2 A1 Aruns2) (room2 tb g L isfor a1 a2 a3 σ (G .inns) rm) (λ p v B d y h z. go p v B d y h z (fills p v B d h))
+        ready-all tb g L isfor a2 A1 (to-runs tb g L isfor a2 A1 Aruns2) (room2 tb g L isfor a1 a2 a3 σ (G .inners) rm) (λ p v B d y h z. go p v B d y h z (fills p v B d h))
       where
-        rm : (x : Eight) (y : ℕ) → giveBy (a2 (from8 L x)) (out8 x) ≡ some y → flow tb g L isfor a1 x none ≡ none
+        rm : (x : Inlet) (y : ℕ) → giveBy (a2 (inletFrom L x)) (inletOutput x) ≡ some y → flow tb g L isfor a1 x none ≡ none
         rm gate0 y h = no-gift tb g L isfor none y refl h
         rm gate1 y h = no-gift tb g L isfor none y refl h
         rm (split0 v) y h = no-gift tb g L isfor none y refl h
@@ -221,25 +225,25 @@ module _ (tb : Table) (g : Good tb) (L s t b u c : ℕ) (q : tb .row L ≡ for s
         rm (arg1 a) y h = no-gift tb g L isfor none y refl h
 
         go : (p : Use) (v B d y : ℕ) → slot tb p ≡ val v B d → given (only tb L a2) (some (wireOf tb v B)) ≡ some y → Fill tb g L isfor v B → A1 .tok p ≡ none
-        go p v B d y h z (fIdx a e w m) = Abody1 p v B d h e
-        go p v B d y h z (fArg i a l e w m) = Abody1 p v B d h e
-        go p v B d y h z (fInv a e w m) = Abody1 p v B d h e
-        go p v B d y h z (fExit x a l e w n m) = Aval1 p v B d h ∙ dropped (taken (only tb L a1) p) (σ .tok p) (G .vals p v B d h .off (λ k. let k2 = k .2 in omega arith))
-        go p v B d y h z (fNone a l m) = no-gift tb g L isfor (given (only tb L a2) (some (wireOf tb v B))) y (m a2) z
+        go p v B d y h z (fillsIndex a e w m) = Abody1 p v B d h e
+        go p v B d y h z (fillsArg i a l e w m) = Abody1 p v B d h e
+        go p v B d y h z (fillsCopy a e w m) = Abody1 p v B d h e
+        go p v B d y h z (fillsExit x a l e w n m) = Aval1 p v B d h ∙ dropped (taken (only tb L a1) p) (σ .tok p) (G .values p v B d h .off (λ k. let k2 = k .2 in omega arith))
+        go p v B d y h z (fillsNone a l m) = no-gift tb g L isfor (given (only tb L a2) (some (wireOf tb v B))) y (m a2) z
 
     Aruns3 : (n : Role) → inLoop tb L n ≡ true → Runs tb g L isfor a3 A2 n
     Aruns3 =
         by-role tb g L isfor (Runs tb g L isfor a3 A2)
         (inl refl) (inl refl) (inl refl) (λ v h. inl refl)
-        (λ v h. inr (runs-by (progOf tb (copyInvariant L v)) A2 (copyInvariant L v) (some 1) (A2 .tok (into (copyInvariant L v) in1)) (A2 .tok (into (copyInvariant L v) in2)) (holding (env v) 0 0) (record { takes0 = true; takes1 = false; takes2 = false; gives0 = some (env v); gives1 = none; next = holding (env v) 0 0 })
-        (at2 tb g L isfor a1 a2 a3 σ (G .inns) (inv0 v) h) refl refl (own2 tb g L isfor a1 a2 a3 σ (G .inns) (copyInvariant L v) (two-in tb L v h) ∙ busy (copyInvariant L v) (two-in tb L v h)) refl))
+        (λ v h. inr (runs-by (programOf tb (copyInvariant L v)) A2 (copyInvariant L v) (some 1) (A2 .tok (into (copyInvariant L v) in1)) (A2 .tok (into (copyInvariant L v) in2)) (holding (env v) 0 0) (record { takes0 = true; takes1 = false; takes2 = false; gives0 = some (env v); gives1 = none; next = holding (env v) 0 0 })
+        (at2 tb g L isfor a1 a2 a3 σ (G .inners) (inv0 v) h) refl refl (own2 tb g L isfor a1 a2 a3 σ (G .inners) (copyInvariant L v) (two-in tb L v h) ∙ busy (copyInvariant L v) (two-in tb L v h)) refl))
         (λ a i h l. inl refl) (λ a i h l. inl refl)
 
     Aready3 : (n : Role) (d : Effect) → inLoop tb L n ≡ true → a3 n ≡ some d → Ready (plan tb) n d A2
     Aready3 =
-        ready-all tb g L isfor a3 A2 (to-runs tb g L isfor a3 A2 Aruns3) (room3 tb g L isfor a1 a2 a3 σ (G .inns) rm) (λ p v B d y h z. go p v B d y h z (fills p v B d h))
+        ready-all tb g L isfor a3 A2 (to-runs tb g L isfor a3 A2 Aruns3) (room3 tb g L isfor a1 a2 a3 σ (G .inners) rm) (λ p v B d y h z. go p v B d y h z (fills p v B d h))
       where
-        rm : (x : Eight) (y : ℕ) → giveBy (a3 (from8 L x)) (out8 x) ≡ some y → flow tb g L isfor a2 x (flow tb g L isfor a1 x none) ≡ none
+        rm : (x : Inlet) (y : ℕ) → giveBy (a3 (inletFrom L x)) (inletOutput x) ≡ some y → flow tb g L isfor a2 x (flow tb g L isfor a1 x none) ≡ none
         rm gate0 y h = no-gift tb g L isfor none y refl h
         rm gate1 y h = no-gift tb g L isfor none y refl h
         rm (split0 v) y h = no-gift tb g L isfor none y refl h
@@ -250,12 +254,12 @@ module _ (tb : Table) (g : Good tb) (L s t b u c : ℕ) (q : tb .row L ≡ for s
         rm (arg1 a) y h = no-gift tb g L isfor none y refl h
 
         go : (p : Use) (v B d y : ℕ) → slot tb p ≡ val v B d → given (only tb L a3) (some (wireOf tb v B)) ≡ some y → Fill tb g L isfor v B → A2 .tok p ≡ none
-        go p v B d y h z (fIdx a e w m) = no-gift tb g L isfor (given (only tb L a3) (some (wireOf tb v B))) y (m a3) z
-        go p v B d y h z (fArg i a l e w m) = no-gift tb g L isfor (given (only tb L a3) (some (wireOf tb v B))) y (m a3) z
-        go p v B d y h z (fInv a e w m) =
+        go p v B d y h z (fillsIndex a e w m) = no-gift tb g L isfor (given (only tb L a3) (some (wireOf tb v B))) y (m a3) z
+        go p v B d y h z (fillsArg i a l e w m) = no-gift tb g L isfor (given (only tb L a3) (some (wireOf tb v B))) y (m a3) z
+        go p v B d y h z (fillsCopy a e w m) =
             tokv tb g L isfor a2 A1 p v B d h ∙ put-drop-none (given (only tb L a2) (some (wireOf tb v B))) (taken (only tb L a2) p) (A1 .tok p) (m a2) (Abody1 p v B d h e)
-        go p v B d y h z (fExit x a l e w n m) = no-gift tb g L isfor (given (only tb L a3) (some (wireOf tb v B))) y (m a3) z
-        go p v B d y h z (fNone a l m) = no-gift tb g L isfor (given (only tb L a3) (some (wireOf tb v B))) y (m a3) z
+        go p v B d y h z (fillsExit x a l e w n m) = no-gift tb g L isfor (given (only tb L a3) (some (wireOf tb v B))) y (m a3) z
+        go p v B d y h z (fillsNone a l m) = no-gift tb g L isfor (given (only tb L a3) (some (wireOf tb v B))) y (m a3) z
 
     -- values where the step ends
     Afinal : (p : Use) (v B d : ℕ) → slot tb p ≡ val v B d
@@ -265,7 +269,7 @@ module _ (tb : Table) (g : Good tb) (L s t b u c : ℕ) (q : tb .row L ≡ for s
         ∙ ap (λ (x : Option ℕ). put (given (only tb L a3) (some (wireOf tb v B))) (drop (taken (only tb L a3) p) x))
         (tokv tb g L isfor a2 A1 p v B d h ∙ ap (λ (x : Option ℕ). put (given (only tb L a2) (some (wireOf tb v B))) (drop (taken (only tb L a2) p) x)) (Aval1 p v B d h))
 
-    -- no value's port is taken at stages 2 and 3
+    -- no value's use is taken at stages 2 and 3
     Alate : (p : Use) (v B d : ℕ) → slot tb p ≡ val v B d → (taken (only tb L a2) p ≡ false) × (taken (only tb L a3) p ≡ false)
     Alate p v B d h = go (taking tb g L isfor p v B d h)
       where
@@ -273,16 +277,16 @@ module _ (tb : Table) (g : Good tb) (L s t b u c : ℕ) (q : tb .row L ≡ for s
         both m i e x y z = (takes-yes tb g L isfor p m i e x a2 ∙ y, takes-yes tb g L isfor p m i e x a3 ∙ z)
 
         go : Taking tb g L isfor p B d → (taken (only tb L a2) p ≡ false) × (taken (only tb L a3) p ≡ false)
-        go (tFor (fStream in0 e) _ _) = both (stream L) in0 e in-stream refl refl
-        go (tFor (fStream in1 e) _ _) = both (stream L) in1 e in-stream refl refl
-        go (tFor (fStream in2 e) _ _) = both (stream L) in2 e in-stream refl refl
-        go (tFor (fGuard in0 e) _ _) = both (guard L) in0 e in-stream refl refl
-        go (tFor (fGuard in1 e) _ _) = both (guard L) in1 e in-stream refl refl
-        go (tFor (fGuard in2 e) _ _) = both (guard L) in2 e in-stream refl refl
-        go (tFor (fSplit x e m) _ _) = both (copySplit L x) in1 e (two-in tb L x m) refl refl
-        go (tFor (fCarry a i e m l) _ _) = both (carry a) in1 e (arg-in tb L a l (ap isArg m)) refl refl
-        go (tEnd a i e m l x y) = both (carry a) in2 e (arg-in tb L a l (ap isArg m)) refl refl
-        go (tNone x y z) = (z a2, z a3)
+        go (takenByFor (intoStream in0 e) _ _) = both (stream L) in0 e in-stream refl refl
+        go (takenByFor (intoStream in1 e) _ _) = both (stream L) in1 e in-stream refl refl
+        go (takenByFor (intoStream in2 e) _ _) = both (stream L) in2 e in-stream refl refl
+        go (takenByFor (intoGuard in0 e) _ _) = both (guard L) in0 e in-stream refl refl
+        go (takenByFor (intoGuard in1 e) _ _) = both (guard L) in1 e in-stream refl refl
+        go (takenByFor (intoGuard in2 e) _ _) = both (guard L) in2 e in-stream refl refl
+        go (takenByFor (intoSplit x e m) _ _) = both (copySplit L x) in1 e (two-in tb L x m) refl refl
+        go (takenByFor (intoCarry a i e m l) _ _) = both (carry a) in1 e (arg-in tb L a l (ap isArg m)) refl refl
+        go (takenByEnd a i e m l x y) = both (carry a) in2 e (arg-in tb L a l (ap isArg m)) refl refl
+        go (takenByNone x y z) = (z a2, z a3)
 
     abbrev pub env1 : Env
     env1 = turnEnv tb L index news env
@@ -302,21 +306,21 @@ module _ (tb : Table) (g : Good tb) (L s t b u c : ℕ) (q : tb .row L ≡ for s
         stay nd a1 =
             let lv = live-again tb g L isfor v B d us nd n in
             shows-same tb (σ .tok p) (A3 .tok p) v B d (tb .last L) (tb .first L) env env1 (rest3 ∙ ap (λ (z : Bool). drop z (σ .tok p)) a1) (lv .0) (lv .1)
-            (λ l. turn-same tb g L isfor v B d index news env us (l .0) n) (G .vals p v B d h)
+            (λ l. turn-same tb g L isfor v B d index news env us (l .0) n) (G .values p v B d h)
 
-        for-stay : ForPort tb p L → d ≡ L → Shows tb (A3 .tok p) v B d (tb .first L) env1
-        for-stay (fStream in0 e) y = stay (λ z. for-not-end tb g L (tb .last L) isfor (g .for-end L isfor) (sym y ∙ z)) (takes-yes tb g L isfor p (stream L) in0 e in-stream a1)
-        for-stay (fStream in1 e) y = stay (λ z. for-not-end tb g L (tb .last L) isfor (g .for-end L isfor) (sym y ∙ z)) (takes-yes tb g L isfor p (stream L) in1 e in-stream a1)
-        for-stay (fStream in2 e) y = stay (λ z. for-not-end tb g L (tb .last L) isfor (g .for-end L isfor) (sym y ∙ z)) (takes-yes tb g L isfor p (stream L) in2 e in-stream a1)
-        for-stay (fGuard in0 e) y = stay (λ z. for-not-end tb g L (tb .last L) isfor (g .for-end L isfor) (sym y ∙ z)) (takes-yes tb g L isfor p (guard L) in0 e in-stream a1)
-        for-stay (fGuard in1 e) y = stay (λ z. for-not-end tb g L (tb .last L) isfor (g .for-end L isfor) (sym y ∙ z)) (takes-yes tb g L isfor p (guard L) in1 e in-stream a1)
-        for-stay (fGuard in2 e) y = stay (λ z. for-not-end tb g L (tb .last L) isfor (g .for-end L isfor) (sym y ∙ z)) (takes-yes tb g L isfor p (guard L) in2 e in-stream a1)
-        for-stay (fSplit x e m) y = stay (λ z. for-not-end tb g L (tb .last L) isfor (g .for-end L isfor) (sym y ∙ z)) (takes-yes tb g L isfor p (copySplit L x) in1 e (two-in tb L x m) a1)
-        for-stay (fCarry a i e m l) y = stay (λ z. for-not-end tb g L (tb .last L) isfor (g .for-end L isfor) (sym y ∙ z)) (takes-yes tb g L isfor p (carry a) in1 e (arg-in tb L a l (ap isArg m)) a1)
+        for-stay : ForUse tb p L → d ≡ L → Shows tb (A3 .tok p) v B d (tb .first L) env1
+        for-stay (intoStream in0 e) y = stay (λ z. for-not-end tb g L (tb .last L) isfor (g .for-end L isfor) (sym y ∙ z)) (takes-yes tb g L isfor p (stream L) in0 e in-stream a1)
+        for-stay (intoStream in1 e) y = stay (λ z. for-not-end tb g L (tb .last L) isfor (g .for-end L isfor) (sym y ∙ z)) (takes-yes tb g L isfor p (stream L) in1 e in-stream a1)
+        for-stay (intoStream in2 e) y = stay (λ z. for-not-end tb g L (tb .last L) isfor (g .for-end L isfor) (sym y ∙ z)) (takes-yes tb g L isfor p (stream L) in2 e in-stream a1)
+        for-stay (intoGuard in0 e) y = stay (λ z. for-not-end tb g L (tb .last L) isfor (g .for-end L isfor) (sym y ∙ z)) (takes-yes tb g L isfor p (guard L) in0 e in-stream a1)
+        for-stay (intoGuard in1 e) y = stay (λ z. for-not-end tb g L (tb .last L) isfor (g .for-end L isfor) (sym y ∙ z)) (takes-yes tb g L isfor p (guard L) in1 e in-stream a1)
+        for-stay (intoGuard in2 e) y = stay (λ z. for-not-end tb g L (tb .last L) isfor (g .for-end L isfor) (sym y ∙ z)) (takes-yes tb g L isfor p (guard L) in2 e in-stream a1)
+        for-stay (intoSplit x e m) y = stay (λ z. for-not-end tb g L (tb .last L) isfor (g .for-end L isfor) (sym y ∙ z)) (takes-yes tb g L isfor p (copySplit L x) in1 e (two-in tb L x m) a1)
+        for-stay (intoCarry a i e m l) y = stay (λ z. for-not-end tb g L (tb .last L) isfor (g .for-end L isfor) (sym y ∙ z)) (takes-yes tb g L isfor p (carry a) in1 e (arg-in tb L a l (ap isArg m)) a1)
 
         go : Taking tb g L isfor p B d → Shows tb (A3 .tok p) v B d (tb .first L) env1
-        go (tFor x e y) = for-stay x e
-        go (tEnd a i e m l x y) =
+        go (takenByFor x e y) = for-stay x e
+        go (takenByEnd a i e m l x y) =
             shows-none tb (A3 .tok p) v B d (tb .first L) env1
             (rest3 ∙ ap (λ (z : Bool). drop z (σ .tok p)) (takes-yes tb g L isfor p (carry a) in2 e (arg-in tb L a l (ap isArg m)) a1))
             (λ l. let l2 : since tb v B ≤ tb .first L = l .2 in
@@ -324,7 +328,7 @@ module _ (tb : Table) (g : Good tb) (L s t b u c : ℕ) (q : tb .row L ≡ for s
               | inl z ↦ n y (ap (since tb v) y ∙ z)
               | inr z ↦ let z′ : since tb v B ≡ since tb v L = ap (since tb v) y in omega arith
             ])
-        go (tNone a x y) = stay x (y a1)
+        go (takenByNone a x y) = stay x (y a1)
 
     Afilled : (p : Use) (v B d : ℕ) → slot tb p ≡ val v B d → B ≡ L → since tb v B ≡ 0 → A3 .tok p ≡ some (env1 v) → Shows tb (A3 .tok p) v B d (tb .first L) env1
     Afilled p v B d h e z w =
@@ -342,20 +346,20 @@ module _ (tb : Table) (g : Good tb) (L s t b u c : ℕ) (q : tb .row L ≡ for s
     vals-again p v B d h = go (fills p v B d h)
       where
         go : Fill tb g L isfor v B → Shows tb (A3 .tok p) v B d (tb .first L) env1
-        go (fIdx a e w m) = Afilled p v B d h e w (Agiven2 p v B d index h (m a2) (m a3) ∙ ap some (sym (ap env1 a ∙ turn-idx tb g L isfor index news env)))
-        go (fArg i a l e w m) = Afilled p v B d h e w (Agiven2 p v B d (news v) h (m a2) (m a3) ∙ ap some (sym (turn-arg tb g L isfor v i index news env a l)))
-        go (fInv a e w m) =
+        go (fillsIndex a e w m) = Afilled p v B d h e w (Agiven2 p v B d index h (m a2) (m a3) ∙ ap some (sym (ap env1 a ∙ turn-idx tb g L isfor index news env)))
+        go (fillsArg i a l e w m) = Afilled p v B d h e w (Agiven2 p v B d (news v) h (m a2) (m a3) ∙ ap some (sym (turn-arg tb g L isfor v i index news env a l)))
+        go (fillsCopy a e w m) =
             Afilled p v B d h e w
             (Afinal p v B d h ∙ ap (λ (x : Option ℕ). put x (drop (taken (only tb L a3) p) (put (given (only tb L a2) (some (wireOf tb v B))) (drop (taken (only tb L a2) p) (drop (taken (only tb L a1) p) (σ .tok p)))))) (m a3)
             ∙ ap some (sym (turn-low tb g L isfor v index news env (g .in-before L v a))))
-        go (fExit x a l e w n m) = Akept p v B d h (m a2) (m a3) (λ e. omega arith)
-        go (fNone a l m) = Akept p v B d h (m a2) (m a3) a
+        go (fillsExit x a l e w n m) = Akept p v B d h (m a2) (m a3) (λ e. omega arith)
+        go (fillsNone a l m) = Akept p v B d h (m a2) (m a3) a
 
     Arecs : (n : Role) → Real tb n → (Inside tb (scope tb n) (tb .first L) → A3 .own n ≡ held tb n env1) × ((Inside tb (scope tb n) (tb .first L) → ⊥) → A3 .own n ≡ rest)
     Arecs n rl = go (inLoop tb L n) refl
       where
         o : (n : Role) → inLoop tb L n ≡ true → A3 .own n ≡ nextBy (a3 n) (nextBy (a2 n) (nextBy (a1 n) (σ .own n)))
-        o n h = own3 tb g L isfor a1 a2 a3 σ (G .inns) n h
+        o n h = own3 tb g L isfor a1 a2 a3 σ (G .inners) n h
 
         in-first : Inside tb L (tb .first L)
         in-first = let fl = g .for-last L isfor in (omega arith, omega arith)
@@ -389,22 +393,22 @@ module _ (tb : Table) (g : Good tb) (L s t b u c : ℕ) (q : tb .row L ≡ for s
         go false h =
             let sn = scope-not tb g L isfor n rl h in
             let io = inside-again tb g L isfor (scope tb n) (real-body tb g n rl) sn in
-            recs-same tb g (tb .last L) (tb .first L) env env1 n rl σ A3 G (own-still tb g L isfor a1 a2 a3 σ (G .inns) n h) (io .0) (io .1)
+            recs-same tb g (tb .last L) (tb .first L) env env1 n rl σ A3 G (own-still tb g L isfor a1 a2 a3 σ (G .inners) n h) (io .0) (io .1)
             (λ l v fs le. let lt = outer-first-le tb g L isfor (scope tb n) fs sn l in turn-low tb g L isfor v index news env (omega arith))
 
     -- THE STEP of an END, with another turn
     pub step-again : Path tb g env σ (tb .first L) env1 (λ M. sayIf (eqb M L) (1 ∷ [])) (λ M. sayIf (eqb M L) (1 ∷ []))
     step-again =
-        let fd = fired3 tb g L isfor a1 a2 a3 σ (G .inns) Aready1 Aready2 Aready3 in (
+        let fd = fired3 tb g L isfor a1 a2 a3 σ (G .inners) Aready1 Aready2 Aready3 in (
           fd .0,
           A3,
           fd .1,
-          record { vals = vals-again; inns = inner3 tb g L isfor a1 a2 a3 σ (G .inns) quiet; recs-in = λ n rl. Arecs n rl .0; recs-out = λ n rl. Arecs n rl .1 },
-          λ M. hist3 tb g L isfor a1 a2 a3 σ (G .inns) (stream M) out1,
-          λ M. hist3 tb g L isfor a1 a2 a3 σ (G .inns) (gate M) out1,
+          record { values = vals-again; inners = inner3 tb g L isfor a1 a2 a3 σ (G .inners) quiet; records-in = λ n rl. Arecs n rl .0; records-out = λ n rl. Arecs n rl .1 },
+          λ M. hist3 tb g L isfor a1 a2 a3 σ (G .inners) (stream M) out1,
+          λ M. hist3 tb g L isfor a1 a2 a3 σ (G .inners) (gate M) out1,
         )
       where
-        quiet : (x : Eight) → flow tb g L isfor a3 x (flow tb g L isfor a2 x (flow tb g L isfor a1 x none)) ≡ none
+        quiet : (x : Inlet) → flow tb g L isfor a3 x (flow tb g L isfor a2 x (flow tb g L isfor a1 x none)) ≡ none
         quiet gate0 = refl
         quiet gate1 = refl
         quiet (split0 v) = refl
@@ -417,13 +421,13 @@ module _ (tb : Table) (g : Good tb) (L s t b u c : ℕ) (q : tb .row L ≡ for s
   -- ---- the loop is left
   module _ (turn : condition c index (env b) ≡ 0) where
     abbrev V1 : State
-    V1 = S1 tb g L isfor l1 l2 l3 σ (G .inns)
+    V1 = S1 tb g L isfor l1 l2 l3 σ (G .inners)
 
     abbrev V2 : State
-    V2 = S2 tb g L isfor l1 l2 l3 σ (G .inns)
+    V2 = S2 tb g L isfor l1 l2 l3 σ (G .inners)
 
     abbrev pub V3 : State
-    V3 = S3 tb g L isfor l1 l2 l3 σ (G .inns)
+    V3 = S3 tb g L isfor l1 l2 l3 σ (G .inners)
 
     Vg1 : (p : Use) (v B d : ℕ) → slot tb p ≡ val v B d → given (only tb L l1) (some (wireOf tb v B)) ≡ none
     Vg1 p v B d h = g-none tb g L isfor l1 refl (λ _. refl) (λ _. refl) (λ _. refl) v B (fills p v B d h)
@@ -431,50 +435,50 @@ module _ (tb : Table) (g : Good tb) (L s t b u c : ℕ) (q : tb .row L ≡ for s
     Vruns1 : (n : Role) → inLoop tb L n ≡ true → Runs tb g L isfor l1 σ n
     Vruns1 =
         by-role tb g L isfor (Runs tb g L isfor l1 σ)
-        (inr (runs-by (progOf tb (stream L)) σ (stream L) (σ .tok (into (stream L) in0)) (σ .tok (into (stream L) in1)) (σ .tok (into (stream L) in2)) (holding index (env t) (env b))
+        (inr (runs-by (programOf tb (stream L)) σ (stream L) (σ .tok (into (stream L) in0)) (σ .tok (into (stream L) in1)) (σ .tok (into (stream L) in2)) (holding index (env t) (env b))
         (record { takes0 = false; takes1 = false; takes2 = false; gives0 = some index; gives1 = some 0; next = rest }) refl refl refl stream-own
-        (ap (λ (z : Row). perform (streamProg z (holding index (env t) (env b))) (sight (σ .tok (into (stream L) in0)) (σ .tok (into (stream L) in1)) (σ .tok (into (stream L) in2)) (holding index (env t) (env b)))) q
+        (ap (λ (z : Row). perform (streamProgram z (holding index (env t) (env b))) (sight (σ .tok (into (stream L) in0)) (σ .tok (into (stream L) in1)) (σ .tok (into (stream L) in2)) (holding index (env t) (env b)))) q
         ∙ pair-no u c index (env t) (env b) (σ .tok (into (stream L) in0)) (σ .tok (into (stream L) in1)) (σ .tok (into (stream L) in2)) (g .for-code L s t b u c q) turn)))
         (inl refl) (inl refl) (λ v h. inl refl) (λ v h. inl refl)
-        (λ a i h l. inr (runs-by (progOf tb (carry a)) σ (carry a) (σ .tok (into (carry a) in0)) (σ .tok (into (carry a) in1)) (some (news a)) (inPhase 2) (record { takes0 = false; takes1 = false; takes2 = true; gives0 = some (news a); gives1 = none; next = inPhase 1 })
+        (λ a i h l. inr (runs-by (programOf tb (carry a)) σ (carry a) (σ .tok (into (carry a) in0)) (σ .tok (into (carry a) in1)) (some (news a)) (inPhase 2) (record { takes0 = false; takes1 = false; takes2 = true; gives0 = some (news a); gives1 = none; next = inPhase 1 })
         refl refl (carry-token a i h l) (busy (carry a) (arg-in tb L a l (ap isArg h))) refl))
         (λ a i h l. inl refl)
 
     Vready1 : (n : Role) (d : Effect) → inLoop tb L n ≡ true → l1 n ≡ some d → Ready (plan tb) n d σ
     Vready1 =
-        ready-all tb g L isfor l1 σ (to-runs tb g L isfor l1 σ Vruns1) (λ p w y h k. G .inns p w h)
+        ready-all tb g L isfor l1 σ (to-runs tb g L isfor l1 σ Vruns1) (λ p w y h k. G .inners p w h)
         (λ p v B d y h k. no-gift tb g L isfor (given (only tb L l1) (some (wireOf tb v B))) y (Vg1 p v B d h) k)
 
-    -- a value's port after stage 1
+    -- a value's use after stage 1
     Vval1 : (p : Use) (v B d : ℕ) → slot tb p ≡ val v B d → V1 .tok p ≡ drop (taken (only tb L l1) p) (σ .tok p)
     Vval1 p v B d h = tokv tb g L isfor l1 σ p v B d h ∙ ap (λ (x : Option ℕ). put x (drop (taken (only tb L l1) p) (σ .tok p))) (Vg1 p v B d h)
 
-    -- the body's ports are empty then
+    -- the body's uses are empty then
     Vbody1 : (p : Use) (v B d : ℕ) → slot tb p ≡ val v B d → B ≡ L → V1 .tok p ≡ none
     Vbody1 p v B d h e = Vval1 p v B d h ∙ go (taking tb g L isfor p v B d h)
       where
         go : Taking tb g L isfor p B d → drop (taken (only tb L l1) p) (σ .tok p) ≡ none
-        go (tFor x y z) = absurd (reads-not tb g L isfor (sym z ∙ e))
-        go (tEnd a i x m l y z) = ap (λ (w : Bool). drop w (σ .tok p)) (takes-yes tb g L isfor p (carry a) in2 x (arg-in tb L a l (ap isArg m)) l1)
-        go (tNone x y z) = dropped (taken (only tb L l1) p) (σ .tok p) (body-done p v B d h e y)
+        go (takenByFor x y z) = absurd (reads-not tb g L isfor (sym z ∙ e))
+        go (takenByEnd a i x m l y z) = ap (λ (w : Bool). drop w (σ .tok p)) (takes-yes tb g L isfor p (carry a) in2 x (arg-in tb L a l (ap isArg m)) l1)
+        go (takenByNone x y z) = dropped (taken (only tb L l1) p) (σ .tok p) (body-done p v B d h e y)
 
     Vruns2 : (n : Role) → inLoop tb L n ≡ true → Runs tb g L isfor l2 V1 n
     Vruns2 =
         by-role tb g L isfor (Runs tb g L isfor l2 V1)
         (inl refl)
-        (inr (runs-by (progOf tb (gate L)) V1 (gate L) (some index) (some 0) (V1 .tok (into (gate L) in2)) (inPhase 1) (record { takes0 = true; takes1 = true; takes2 = false; gives0 = none; gives1 = some 0; next = rest })
-        (at1 tb g L isfor l1 l2 l3 σ (G .inns) gate0 tt) (at1 tb g L isfor l1 l2 l3 σ (G .inns) gate1 tt) refl (own-in tb g L isfor l1 σ (gate L) in-stream ∙ busy (gate L) in-stream) refl))
+        (inr (runs-by (programOf tb (gate L)) V1 (gate L) (some index) (some 0) (V1 .tok (into (gate L) in2)) (inPhase 1) (record { takes0 = true; takes1 = true; takes2 = false; gives0 = none; gives1 = some 0; next = rest })
+        (at1 tb g L isfor l1 l2 l3 σ (G .inners) gate0 tt) (at1 tb g L isfor l1 l2 l3 σ (G .inners) gate1 tt) refl (own-in tb g L isfor l1 σ (gate L) in-stream ∙ busy (gate L) in-stream) refl))
         (inl refl) (λ v h. inl refl) (λ v h. inl refl)
-        (λ a i h l. inr (runs-by (progOf tb (carry a)) V1 (carry a) (some 0) (V1 .tok (into (carry a) in1)) (V1 .tok (into (carry a) in2)) (inPhase 1) (record { takes0 = true; takes1 = false; takes2 = false; gives0 = none; gives1 = none; next = rest })
-        (at1 tb g L isfor l1 l2 l3 σ (G .inns) (carry0 a) (l, ap isArg h)) refl refl (own-in tb g L isfor l1 σ (carry a) (arg-in tb L a l (ap isArg h))) refl))
-        (λ a i h l. inr (runs-by (progOf tb (argSplit a)) V1 (argSplit a) (some 0) (some (news a)) (V1 .tok (into (argSplit a) in2)) rest (record { takes0 = true; takes1 = true; takes2 = false; gives0 = none; gives1 = some (news a); next = rest })
-        (at1 tb g L isfor l1 l2 l3 σ (G .inns) (arg0 a) (l, ap isArg h)) (at1 tb g L isfor l1 l2 l3 σ (G .inns) (arg1 a) (l, ap isArg h)) refl (own-in tb g L isfor l1 σ (argSplit a) (arg-in tb L a l (ap isArg h)) ∙ busy (argSplit a) (arg-in tb L a l (ap isArg h))) refl))
+        (λ a i h l. inr (runs-by (programOf tb (carry a)) V1 (carry a) (some 0) (V1 .tok (into (carry a) in1)) (V1 .tok (into (carry a) in2)) (inPhase 1) (record { takes0 = true; takes1 = false; takes2 = false; gives0 = none; gives1 = none; next = rest })
+        (at1 tb g L isfor l1 l2 l3 σ (G .inners) (carry0 a) (l, ap isArg h)) refl refl (own-in tb g L isfor l1 σ (carry a) (arg-in tb L a l (ap isArg h))) refl))
+        (λ a i h l. inr (runs-by (programOf tb (argSplit a)) V1 (argSplit a) (some 0) (some (news a)) (V1 .tok (into (argSplit a) in2)) rest (record { takes0 = true; takes1 = true; takes2 = false; gives0 = none; gives1 = some (news a); next = rest })
+        (at1 tb g L isfor l1 l2 l3 σ (G .inners) (arg0 a) (l, ap isArg h)) (at1 tb g L isfor l1 l2 l3 σ (G .inners) (arg1 a) (l, ap isArg h)) refl (own-in tb g L isfor l1 σ (argSplit a) (arg-in tb L a l (ap isArg h)) ∙ busy (argSplit a) (arg-in tb L a l (ap isArg h))) refl))
 
     Vready2 : (n : Role) (d : Effect) → inLoop tb L n ≡ true → l2 n ≡ some d → Ready (plan tb) n d V1
     Vready2 =
-        ready-all tb g L isfor l2 V1 (to-runs tb g L isfor l2 V1 Vruns2) (room2 tb g L isfor l1 l2 l3 σ (G .inns) rm) (λ p v B d y h z. go p v B d y h z (fills p v B d h))
+        ready-all tb g L isfor l2 V1 (to-runs tb g L isfor l2 V1 Vruns2) (room2 tb g L isfor l1 l2 l3 σ (G .inners) rm) (λ p v B d y h z. go p v B d y h z (fills p v B d h))
       where
-        rm : (x : Eight) (y : ℕ) → giveBy (l2 (from8 L x)) (out8 x) ≡ some y → flow tb g L isfor l1 x none ≡ none
+        rm : (x : Inlet) (y : ℕ) → giveBy (l2 (inletFrom L x)) (inletOutput x) ≡ some y → flow tb g L isfor l1 x none ≡ none
         rm gate0 y h = no-gift tb g L isfor none y refl h
         rm gate1 y h = no-gift tb g L isfor none y refl h
         rm (split0 v) y h = no-gift tb g L isfor none y refl h
@@ -485,25 +489,25 @@ module _ (tb : Table) (g : Good tb) (L s t b u c : ℕ) (q : tb .row L ≡ for s
         rm (arg1 a) y h = no-gift tb g L isfor none y refl h
 
         go : (p : Use) (v B d y : ℕ) → slot tb p ≡ val v B d → given (only tb L l2) (some (wireOf tb v B)) ≡ some y → Fill tb g L isfor v B → V1 .tok p ≡ none
-        go p v B d y h z (fIdx a e w m) = Vbody1 p v B d h e
-        go p v B d y h z (fArg i a l e w m) = Vbody1 p v B d h e
-        go p v B d y h z (fInv a e w m) = Vbody1 p v B d h e
-        go p v B d y h z (fExit x a l e w n m) = Vval1 p v B d h ∙ dropped (taken (only tb L l1) p) (σ .tok p) (G .vals p v B d h .off (λ k. let k2 = k .2 in omega arith))
-        go p v B d y h z (fNone a l m) = no-gift tb g L isfor (given (only tb L l2) (some (wireOf tb v B))) y (m l2) z
+        go p v B d y h z (fillsIndex a e w m) = Vbody1 p v B d h e
+        go p v B d y h z (fillsArg i a l e w m) = Vbody1 p v B d h e
+        go p v B d y h z (fillsCopy a e w m) = Vbody1 p v B d h e
+        go p v B d y h z (fillsExit x a l e w n m) = Vval1 p v B d h ∙ dropped (taken (only tb L l1) p) (σ .tok p) (G .values p v B d h .off (λ k. let k2 = k .2 in omega arith))
+        go p v B d y h z (fillsNone a l m) = no-gift tb g L isfor (given (only tb L l2) (some (wireOf tb v B))) y (m l2) z
 
     Vruns3 : (n : Role) → inLoop tb L n ≡ true → Runs tb g L isfor l3 V2 n
     Vruns3 =
         by-role tb g L isfor (Runs tb g L isfor l3 V2)
         (inl refl) (inl refl) (inl refl) (λ v h. inl refl)
-        (λ v h. inr (runs-by (progOf tb (copyInvariant L v)) V2 (copyInvariant L v) (some 0) (V2 .tok (into (copyInvariant L v) in1)) (V2 .tok (into (copyInvariant L v) in2)) (holding (env v) 0 0) (record { takes0 = true; takes1 = false; takes2 = false; gives0 = none; gives1 = none; next = rest })
-        (at2 tb g L isfor l1 l2 l3 σ (G .inns) (inv0 v) h) refl refl (own2 tb g L isfor l1 l2 l3 σ (G .inns) (copyInvariant L v) (two-in tb L v h) ∙ busy (copyInvariant L v) (two-in tb L v h)) refl))
+        (λ v h. inr (runs-by (programOf tb (copyInvariant L v)) V2 (copyInvariant L v) (some 0) (V2 .tok (into (copyInvariant L v) in1)) (V2 .tok (into (copyInvariant L v) in2)) (holding (env v) 0 0) (record { takes0 = true; takes1 = false; takes2 = false; gives0 = none; gives1 = none; next = rest })
+        (at2 tb g L isfor l1 l2 l3 σ (G .inners) (inv0 v) h) refl refl (own2 tb g L isfor l1 l2 l3 σ (G .inners) (copyInvariant L v) (two-in tb L v h) ∙ busy (copyInvariant L v) (two-in tb L v h)) refl))
         (λ a i h l. inl refl) (λ a i h l. inl refl)
 
     Vready3 : (n : Role) (d : Effect) → inLoop tb L n ≡ true → l3 n ≡ some d → Ready (plan tb) n d V2
     Vready3 =
-        ready-all tb g L isfor l3 V2 (to-runs tb g L isfor l3 V2 Vruns3) (room3 tb g L isfor l1 l2 l3 σ (G .inns) rm) (λ p v B d y h z. go p v B d y h z (fills p v B d h))
+        ready-all tb g L isfor l3 V2 (to-runs tb g L isfor l3 V2 Vruns3) (room3 tb g L isfor l1 l2 l3 σ (G .inners) rm) (λ p v B d y h z. go p v B d y h z (fills p v B d h))
       where
-        rm : (x : Eight) (y : ℕ) → giveBy (l3 (from8 L x)) (out8 x) ≡ some y → flow tb g L isfor l2 x (flow tb g L isfor l1 x none) ≡ none
+        rm : (x : Inlet) (y : ℕ) → giveBy (l3 (inletFrom L x)) (inletOutput x) ≡ some y → flow tb g L isfor l2 x (flow tb g L isfor l1 x none) ≡ none
         rm gate0 y h = no-gift tb g L isfor none y refl h
         rm gate1 y h = no-gift tb g L isfor none y refl h
         rm (split0 v) y h = no-gift tb g L isfor none y refl h
@@ -514,12 +518,12 @@ module _ (tb : Table) (g : Good tb) (L s t b u c : ℕ) (q : tb .row L ≡ for s
         rm (arg1 a) y h = no-gift tb g L isfor none y refl h
 
         go : (p : Use) (v B d y : ℕ) → slot tb p ≡ val v B d → given (only tb L l3) (some (wireOf tb v B)) ≡ some y → Fill tb g L isfor v B → V2 .tok p ≡ none
-        go p v B d y h z (fIdx a e w m) = no-gift tb g L isfor (given (only tb L l3) (some (wireOf tb v B))) y (m l3) z
-        go p v B d y h z (fArg i a l e w m) = no-gift tb g L isfor (given (only tb L l3) (some (wireOf tb v B))) y (m l3) z
-        go p v B d y h z (fInv a e w m) =
+        go p v B d y h z (fillsIndex a e w m) = no-gift tb g L isfor (given (only tb L l3) (some (wireOf tb v B))) y (m l3) z
+        go p v B d y h z (fillsArg i a l e w m) = no-gift tb g L isfor (given (only tb L l3) (some (wireOf tb v B))) y (m l3) z
+        go p v B d y h z (fillsCopy a e w m) =
             tokv tb g L isfor l2 V1 p v B d h ∙ put-drop-none (given (only tb L l2) (some (wireOf tb v B))) (taken (only tb L l2) p) (V1 .tok p) (m l2) (Vbody1 p v B d h e)
-        go p v B d y h z (fExit x a l e w n m) = no-gift tb g L isfor (given (only tb L l3) (some (wireOf tb v B))) y (m l3) z
-        go p v B d y h z (fNone a l m) = no-gift tb g L isfor (given (only tb L l3) (some (wireOf tb v B))) y (m l3) z
+        go p v B d y h z (fillsExit x a l e w n m) = no-gift tb g L isfor (given (only tb L l3) (some (wireOf tb v B))) y (m l3) z
+        go p v B d y h z (fillsNone a l m) = no-gift tb g L isfor (given (only tb L l3) (some (wireOf tb v B))) y (m l3) z
 
     -- values where the step ends
     Vfinal : (p : Use) (v B d : ℕ) → slot tb p ≡ val v B d
@@ -529,7 +533,7 @@ module _ (tb : Table) (g : Good tb) (L s t b u c : ℕ) (q : tb .row L ≡ for s
         ∙ ap (λ (x : Option ℕ). put (given (only tb L l3) (some (wireOf tb v B))) (drop (taken (only tb L l3) p) x))
         (tokv tb g L isfor l2 V1 p v B d h ∙ ap (λ (x : Option ℕ). put (given (only tb L l2) (some (wireOf tb v B))) (drop (taken (only tb L l2) p) x)) (Vval1 p v B d h))
 
-    -- no value's port is taken at stages 2 and 3
+    -- no value's use is taken at stages 2 and 3
     Vlate : (p : Use) (v B d : ℕ) → slot tb p ≡ val v B d → (taken (only tb L l2) p ≡ false) × (taken (only tb L l3) p ≡ false)
     Vlate p v B d h = go (taking tb g L isfor p v B d h)
       where
@@ -537,16 +541,16 @@ module _ (tb : Table) (g : Good tb) (L s t b u c : ℕ) (q : tb .row L ≡ for s
         both m i e x y z = (takes-yes tb g L isfor p m i e x l2 ∙ y, takes-yes tb g L isfor p m i e x l3 ∙ z)
 
         go : Taking tb g L isfor p B d → (taken (only tb L l2) p ≡ false) × (taken (only tb L l3) p ≡ false)
-        go (tFor (fStream in0 e) _ _) = both (stream L) in0 e in-stream refl refl
-        go (tFor (fStream in1 e) _ _) = both (stream L) in1 e in-stream refl refl
-        go (tFor (fStream in2 e) _ _) = both (stream L) in2 e in-stream refl refl
-        go (tFor (fGuard in0 e) _ _) = both (guard L) in0 e in-stream refl refl
-        go (tFor (fGuard in1 e) _ _) = both (guard L) in1 e in-stream refl refl
-        go (tFor (fGuard in2 e) _ _) = both (guard L) in2 e in-stream refl refl
-        go (tFor (fSplit x e m) _ _) = both (copySplit L x) in1 e (two-in tb L x m) refl refl
-        go (tFor (fCarry a i e m l) _ _) = both (carry a) in1 e (arg-in tb L a l (ap isArg m)) refl refl
-        go (tEnd a i e m l x y) = both (carry a) in2 e (arg-in tb L a l (ap isArg m)) refl refl
-        go (tNone x y z) = (z l2, z l3)
+        go (takenByFor (intoStream in0 e) _ _) = both (stream L) in0 e in-stream refl refl
+        go (takenByFor (intoStream in1 e) _ _) = both (stream L) in1 e in-stream refl refl
+        go (takenByFor (intoStream in2 e) _ _) = both (stream L) in2 e in-stream refl refl
+        go (takenByFor (intoGuard in0 e) _ _) = both (guard L) in0 e in-stream refl refl
+        go (takenByFor (intoGuard in1 e) _ _) = both (guard L) in1 e in-stream refl refl
+        go (takenByFor (intoGuard in2 e) _ _) = both (guard L) in2 e in-stream refl refl
+        go (takenByFor (intoSplit x e m) _ _) = both (copySplit L x) in1 e (two-in tb L x m) refl refl
+        go (takenByFor (intoCarry a i e m l) _ _) = both (carry a) in1 e (arg-in tb L a l (ap isArg m)) refl refl
+        go (takenByEnd a i e m l x y) = both (carry a) in2 e (arg-in tb L a l (ap isArg m)) refl refl
+        go (takenByNone x y z) = (z l2, z l3)
 
     abbrev pub leaving : Env
     leaving x = news (tb .argOf x)
@@ -569,25 +573,25 @@ module _ (tb : Table) (g : Good tb) (L s t b u c : ℕ) (q : tb .row L ≡ for s
         stay nd a1 =
             let lv = live-leave tb g L isfor v B d us nd n in
             shows-same tb (σ .tok p) (V3 .tok p) v B d (tb .last L) (suc (tb .last L)) env env0 (rest3 ∙ ap (λ (z : Bool). drop z (σ .tok p)) a1) (lv .0) (lv .1)
-            (λ l. leave-same tb g L isfor v B d leaving env us (l .0) n) (G .vals p v B d h)
+            (λ l. leave-same tb g L isfor v B d leaving env us (l .0) n) (G .values p v B d h)
 
-        for-stay : ForPort tb p L → d ≡ L → Shows tb (V3 .tok p) v B d (suc (tb .last L)) env0
-        for-stay (fStream in0 e) y = stay (λ z. for-not-end tb g L (tb .last L) isfor (g .for-end L isfor) (sym y ∙ z)) (takes-yes tb g L isfor p (stream L) in0 e in-stream l1)
-        for-stay (fStream in1 e) y = stay (λ z. for-not-end tb g L (tb .last L) isfor (g .for-end L isfor) (sym y ∙ z)) (takes-yes tb g L isfor p (stream L) in1 e in-stream l1)
-        for-stay (fStream in2 e) y = stay (λ z. for-not-end tb g L (tb .last L) isfor (g .for-end L isfor) (sym y ∙ z)) (takes-yes tb g L isfor p (stream L) in2 e in-stream l1)
-        for-stay (fGuard in0 e) y = stay (λ z. for-not-end tb g L (tb .last L) isfor (g .for-end L isfor) (sym y ∙ z)) (takes-yes tb g L isfor p (guard L) in0 e in-stream l1)
-        for-stay (fGuard in1 e) y = stay (λ z. for-not-end tb g L (tb .last L) isfor (g .for-end L isfor) (sym y ∙ z)) (takes-yes tb g L isfor p (guard L) in1 e in-stream l1)
-        for-stay (fGuard in2 e) y = stay (λ z. for-not-end tb g L (tb .last L) isfor (g .for-end L isfor) (sym y ∙ z)) (takes-yes tb g L isfor p (guard L) in2 e in-stream l1)
-        for-stay (fSplit x e m) y = stay (λ z. for-not-end tb g L (tb .last L) isfor (g .for-end L isfor) (sym y ∙ z)) (takes-yes tb g L isfor p (copySplit L x) in1 e (two-in tb L x m) l1)
-        for-stay (fCarry a i e m l) y = stay (λ z. for-not-end tb g L (tb .last L) isfor (g .for-end L isfor) (sym y ∙ z)) (takes-yes tb g L isfor p (carry a) in1 e (arg-in tb L a l (ap isArg m)) l1)
+        for-stay : ForUse tb p L → d ≡ L → Shows tb (V3 .tok p) v B d (suc (tb .last L)) env0
+        for-stay (intoStream in0 e) y = stay (λ z. for-not-end tb g L (tb .last L) isfor (g .for-end L isfor) (sym y ∙ z)) (takes-yes tb g L isfor p (stream L) in0 e in-stream l1)
+        for-stay (intoStream in1 e) y = stay (λ z. for-not-end tb g L (tb .last L) isfor (g .for-end L isfor) (sym y ∙ z)) (takes-yes tb g L isfor p (stream L) in1 e in-stream l1)
+        for-stay (intoStream in2 e) y = stay (λ z. for-not-end tb g L (tb .last L) isfor (g .for-end L isfor) (sym y ∙ z)) (takes-yes tb g L isfor p (stream L) in2 e in-stream l1)
+        for-stay (intoGuard in0 e) y = stay (λ z. for-not-end tb g L (tb .last L) isfor (g .for-end L isfor) (sym y ∙ z)) (takes-yes tb g L isfor p (guard L) in0 e in-stream l1)
+        for-stay (intoGuard in1 e) y = stay (λ z. for-not-end tb g L (tb .last L) isfor (g .for-end L isfor) (sym y ∙ z)) (takes-yes tb g L isfor p (guard L) in1 e in-stream l1)
+        for-stay (intoGuard in2 e) y = stay (λ z. for-not-end tb g L (tb .last L) isfor (g .for-end L isfor) (sym y ∙ z)) (takes-yes tb g L isfor p (guard L) in2 e in-stream l1)
+        for-stay (intoSplit x e m) y = stay (λ z. for-not-end tb g L (tb .last L) isfor (g .for-end L isfor) (sym y ∙ z)) (takes-yes tb g L isfor p (copySplit L x) in1 e (two-in tb L x m) l1)
+        for-stay (intoCarry a i e m l) y = stay (λ z. for-not-end tb g L (tb .last L) isfor (g .for-end L isfor) (sym y ∙ z)) (takes-yes tb g L isfor p (carry a) in1 e (arg-in tb L a l (ap isArg m)) l1)
 
         go : Taking tb g L isfor p B d → Shows tb (V3 .tok p) v B d (suc (tb .last L)) env0
-        go (tFor x e y) = for-stay x e
-        go (tEnd a i e m l x y) =
+        go (takenByFor x e y) = for-stay x e
+        go (takenByEnd a i e m l x y) =
             shows-none tb (V3 .tok p) v B d (suc (tb .last L)) env0
             (rest3 ∙ ap (λ (z : Bool). drop z (σ .tok p)) (takes-yes tb g L isfor p (carry a) in2 e (arg-in tb L a l (ap isArg m)) l1))
             (λ l. let l3 = l .3 in omega arith)
-        go (tNone a x y) = stay x (y l1)
+        go (takenByNone a x y) = stay x (y l1)
 
     vals-leave : (p : Use) (v B d : ℕ) → slot tb p ≡ val v B d → Shows tb (V3 .tok p) v B d (suc (tb .last L)) env0
     vals-leave p v B d h = go (fills p v B d h)
@@ -599,10 +603,10 @@ module _ (tb : Table) (g : Good tb) (L s t b u c : ℕ) (q : tb .row L ≡ for s
         beyond (around y z) lo hi = z
 
         go : Fill tb g L isfor v B → Shows tb (V3 .tok p) v B d (suc (tb .last L)) env0
-        go (fIdx a e w m) = Vkept p v B d h (m l2) (m l3) (λ x r _ _. let r′ : tb .row L ≡ next x = ap (tb .row) (sym a) ∙ r in let z : _≡_ {A = ℕ} 0 1 = cc in omega arith)
-        go (fArg i a l e w m) = Vkept p v B d h (m l2) (m l3) (λ x r _ _. let z : _≡_ {A = ℕ} 0 1 = cc in omega arith)
-        go (fInv a e w m) = Vkept p v B d h (m l2) (m l3) (λ x r _ y. g .in-home L v a (y ∙ e))
-        go (fExit x a l e w n m) =
+        go (fillsIndex a e w m) = Vkept p v B d h (m l2) (m l3) (λ x r _ _. let r′ : tb .row L ≡ next x = ap (tb .row) (sym a) ∙ r in let z : _≡_ {A = ℕ} 0 1 = cc in omega arith)
+        go (fillsArg i a l e w m) = Vkept p v B d h (m l2) (m l3) (λ x r _ _. let z : _≡_ {A = ℕ} 0 1 = cc in omega arith)
+        go (fillsCopy a e w m) = Vkept p v B d h (m l2) (m l3) (λ x r _ y. g .in-home L v a (y ∙ e))
+        go (fillsExit x a l e w n m) =
             let us = g .uses p v B d h in
             let nb : since tb v B ≤ d = us .named-before in
             let i = subst (λ (z : ℕ). Inner tb z L) (sym e) (g .for-reads L isfor) in
@@ -615,15 +619,15 @@ module _ (tb : Table) (g : Good tb) (L s t b u c : ℕ) (q : tb .row L ≡ for s
             let m2 = m l2 in
             let m3 = m l3 in
             shows-some tb (V3 .tok p) v B d (suc (tb .last L)) env0
-            (Vfinal p v B d h ∙ rw (m2, m3, t3) (ap some (sym (nexts-same tb L leaving env v l (ap isNxt a)))))
+            (Vfinal p v B d h ∙ rw (m2, m3, t3) (ap some (sym (nexts-same tb L leaving env v l (ap isNext a)))))
             (omega arith, omega arith, omega arith, omega arith)
-        go (fNone a l m) = Vkept p v B d h (m l2) (m l3) l
+        go (fillsNone a l m) = Vkept p v B d h (m l2) (m l3) l
 
     Vrecs : (n : Role) → Real tb n → (Inside tb (scope tb n) (suc (tb .last L)) → V3 .own n ≡ held tb n env0) × ((Inside tb (scope tb n) (suc (tb .last L)) → ⊥) → V3 .own n ≡ rest)
     Vrecs n rl = go (inLoop tb L n) refl
       where
         o : (n : Role) → inLoop tb L n ≡ true → V3 .own n ≡ nextBy (l3 n) (nextBy (l2 n) (nextBy (l1 n) (σ .own n)))
-        o n h = own3 tb g L isfor l1 l2 l3 σ (G .inns) n h
+        o n h = own3 tb g L isfor l1 l2 l3 σ (G .inners) n h
 
         out-last : Inside tb L (suc (tb .last L)) → ⊥
         out-last l = let l1 = l .1 in omega arith
@@ -644,22 +648,22 @@ module _ (tb : Table) (g : Good tb) (L s t b u c : ℕ) (q : tb .row L ≡ for s
         go false h =
             let sn = scope-not tb g L isfor n rl h in
             let io = inside-leave tb g L isfor (scope tb n) (real-body tb g n rl) sn in
-            recs-same tb g (tb .last L) (suc (tb .last L)) env env0 n rl σ V3 G (own-still tb g L isfor l1 l2 l3 σ (G .inns) n h) (io .0) (io .1)
+            recs-same tb g (tb .last L) (suc (tb .last L)) env env0 n rl σ V3 G (own-still tb g L isfor l1 l2 l3 σ (G .inners) n h) (io .0) (io .1)
             (λ l v fs le. let lt = outer-leave tb g L isfor (scope tb n) fs sn l in let ff = g .for-first L isfor in leave-low tb g L isfor v leaving env (omega arith))
 
     -- THE STEP of an END, that leaves
     pub step-leave : Path tb g env σ (suc (tb .last L)) env0 (λ M. sayIf (eqb M L) (0 ∷ [])) (λ M. sayIf (eqb M L) (0 ∷ []))
     step-leave =
-        let fd = fired3 tb g L isfor l1 l2 l3 σ (G .inns) Vready1 Vready2 Vready3 in (
+        let fd = fired3 tb g L isfor l1 l2 l3 σ (G .inners) Vready1 Vready2 Vready3 in (
           fd .0,
           V3,
           fd .1,
-          record { vals = vals-leave; inns = inner3 tb g L isfor l1 l2 l3 σ (G .inns) quiet; recs-in = λ n rl. Vrecs n rl .0; recs-out = λ n rl. Vrecs n rl .1 },
-          λ M. hist3 tb g L isfor l1 l2 l3 σ (G .inns) (stream M) out1,
-          λ M. hist3 tb g L isfor l1 l2 l3 σ (G .inns) (gate M) out1,
+          record { values = vals-leave; inners = inner3 tb g L isfor l1 l2 l3 σ (G .inners) quiet; records-in = λ n rl. Vrecs n rl .0; records-out = λ n rl. Vrecs n rl .1 },
+          λ M. hist3 tb g L isfor l1 l2 l3 σ (G .inners) (stream M) out1,
+          λ M. hist3 tb g L isfor l1 l2 l3 σ (G .inners) (gate M) out1,
         )
       where
-        quiet : (x : Eight) → flow tb g L isfor l3 x (flow tb g L isfor l2 x (flow tb g L isfor l1 x none)) ≡ none
+        quiet : (x : Inlet) → flow tb g L isfor l3 x (flow tb g L isfor l2 x (flow tb g L isfor l1 x none)) ≡ none
         quiet gate0 = refl
         quiet gate1 = refl
         quiet (split0 v) = refl

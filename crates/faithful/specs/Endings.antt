@@ -5,26 +5,25 @@
 --   answers-complete          and there the answer is COMPLETE
 --
 -- Assumes nothing.
-use mathlib.Core.Path.{_≡_, refl, sym, ap, ap₂, _∙_, subst}
-use mathlib.Core.Logic.{_≢_, _⊎_, inl, inr}
-use mathlib.Core.Bool.{Bool, true, false, cond, not, _&&_, _||_}
-use mathlib.Core.Option.{Option, none, some}
+use mathlib.Core.Path.{_≡_, refl, sym, ap, ap₂, _∙_}
+use mathlib.Core.Logic.{_≢_}
+use mathlib.Core.Bool.{Bool, true, false, cond, not, _||_}
+use mathlib.Core.Option.{some}
 use mathlib.Core.List.{List, [], _∷_, _++_, append-assoc}
-use Prim.Native.Nat.{ℕ, zero, suc, _+_, _*_, _≤_, _<_}
+use Prim.Native.Nat.{ℕ, zero, suc, _+_, _≤_, _<_}
 use native.Mathlib.Omega.{arith}
-use native.Mathlib.Decide.{decLt, ℕ-discrete}
-use borrow.Author.Tests.{eq-eqb, eqb-true, lt-ltb, le-ltb}
-use lib.Dec.{eqb, ltb}
-use lib.ListN.{length, getD, getElem?, length-append}
-use Rattle.word.specs.Words
+use native.Mathlib.Decide.{ℕ-discrete}
+use borrow.Author.Tests.{eq-eqb, eqb-true, lt-ltb}
+use lib.Dec.{eqb}
+use lib.ListN.{length, getD, getElem?}
 use Rattle.step.specs.Machines.{rest}
 use Rattle.step.specs.declared.Record.{Record}
-use Rattle.graph.specs.Below.{everyFrom, every, joined, times, times-one, times-within}
+use Rattle.graph.specs.Below.{everyFrom, every, times, times-one, times-within}
 use Rattle.graph.specs.Graph.{nodeCount, wireCount, resultCount, resultAt, results}
 use Rattle.graph.specs.Refusal.{graphRefusal}
 use Rattle.state.specs.State.{fullPlace, wordPlace, token, tokenAt, isEmpty, recordAt}
 use Rattle.state.specs.Net.{netOf, fire}
-use Rattle.state.specs.Run.{anyReady, isFull, isResult, resultsFull, othersEmpty, phasesZero, complete, zeroStep, COMPLETE, outcome}
+use Rattle.state.specs.Run.{isFull, isResult, resultsFull, othersEmpty, phasesZero, complete, COMPLETE, outcome}
 use Rattle.confluence.specs.Orders.{Rests}
 use Rattle.confluence.specs.Graphs.{none-ready-if-rests}
 use Rattle.table.specs.Rows.{kindOf, word, size, OUT}

@@ -7,15 +7,14 @@
 --
 -- Assumes nothing.
 use mathlib.Core.Path.{_≡_, refl, sym, ap, ap₂, _∙_, subst}
-use mathlib.Core.Logic.{_≢_, _⊎_, inl, inr}
-use mathlib.Core.Bool.{Bool, true, false, not, _&&_, _||_}
+use mathlib.Core.Logic.{_≢_}
+use mathlib.Core.Bool.{Bool, true, false}
 use mathlib.Core.Option.{Option, none, some}
 use mathlib.Core.List.{List, [], _∷_}
 use Prim.Native.Nat.{ℕ, zero, suc, _+_, _≤_, _<_}
 use native.Mathlib.Omega.{arith}
 use native.Mathlib.Decide.{ℕ-discrete}
-use borrow.Author.Tests.{eq-eqb, lt-ltb}
-use lib.Dec.{eqb, ltb}
+use borrow.Author.Tests.{lt-ltb}
 use lib.ListN.{getD}
 use Rattle.step.specs.Kinds.{STREAM, Input, in0, in1, in2}
 use Rattle.step.specs.Firing.{Effect, View}
@@ -26,10 +25,10 @@ use Rattle.graph.specs.Graph.{Node, nodeAt, nodeCount, wireCount, inputAt}
 use Rattle.graph.specs.Refusal.{graphRefusal}
 use Rattle.state.specs.State.{fullPlace, wordPlace, token, tokenAt, tokenOn, isEmpty, recordAt, stored}
 use Rattle.state.specs.Net.{Net, netOf, view, effectAt, stepAt, stores, fire}
-use Rattle.state.specs.Run.{anyReady, isStream, complete, zeroStepAt, firstFrom, zeroStep, ZERO-STEP, outcome}
+use Rattle.state.specs.Run.{isStream, complete, zeroStepAt, firstFrom, zeroStep, ZERO-STEP, outcome}
 use Rattle.confluence.specs.Orders.{Rests, fires-first, fires-end}
 use Rattle.confluence.specs.Wired.{Wired, effect-of, given-empty}
-use Rattle.confluence.specs.Update.{wireAt, Touch, takes-it, gives-it, leaves-it, touch, still-after, own-after}
+use Rattle.confluence.specs.Update.{Touch, takes-it, gives-it, leaves-it, touch, still-after, own-after}
 use Rattle.confluence.specs.Graphs.{nodes-are-local, accepted-is-wired, none-ready-if-rests}
 use Rattle.confluence.specs.Statements.{Fires}
 

@@ -6,49 +6,48 @@
 --   finished, rests           so it is where the reading has ended, and nothing is ready there
 --
 -- Assumes nothing.
-use mathlib.Core.Path.{_≡_, refl, sym, ap, ap₂, _∙_, subst}
+use mathlib.Core.Path.{_≡_, refl, sym, ap, _∙_, subst}
 use mathlib.Core.Logic.{_≢_, _⊎_, inl, inr}
-use mathlib.Core.Bool.{Bool, true, false}
 use mathlib.Core.Option.{Option, none, some}
-use mathlib.Core.List.{List, [], _∷_, _++_}
+use mathlib.Core.List.{List, _∷_}
 use Prim.Native.Nat.{ℕ, zero, suc, _+_, _*_, _≤_, _<_}
 use native.Mathlib.Omega.{arith}
 use native.Mathlib.Decide.{decLt, decLe}
-use lib.ListN.{length, getD}
-use Rattle.step.specs.Kinds.{Input, in0, in1, in2, Output, out0, out1}
+use lib.ListN.{length}
+use Rattle.step.specs.Kinds.{Input, in0, in1, in2}
 use Rattle.step.specs.Firing.{View, Effect, perform}
-use Rattle.step.specs.Machines
 use Rattle.step.specs.Machines.{rest}
 use Rattle.step.specs.declared.Record.{Record}
+use Rattle.step.specs.Machines
 use Rattle.state.specs.State.{recordAt}
-use Rattle.state.specs.Net
 use Rattle.state.specs.Net.{Net, view, effectAt, fire}
+use Rattle.state.specs.Net
 use Rattle.confluence.specs.Orders.{Rests}
 use Rattle.confluence.specs.Wired.{Wired}
 use Rattle.table.specs.Bodies.{Row, input, const, op, pick, for, arg, next, end, out, unknown}
 use Rattle.lowered.specs.Roles.{Role, opNode, stream, gate, guard, copySplit, copyInvariant, carry, argSplit, Wire, start, output, Use, into, result}
 use Rattle.uses.specs.Machine.{State}
-use Rattle.uses.specs.Wires.{Tokens, inTok, view2, Has, Once, Spread, drained, alone, forked, below, nodes, OneOf, ports-in}
-use Rattle.uses.specs.Layout.{Layout, Made, Tree, Shown, portOf, port-tree, dec-use, use-port}
+use Rattle.uses.specs.Wires.{Tokens, inTok, view2, Has, Once, Spread, drained, alone, forked, below, nodes, OneOf, uses-in}
+use Rattle.uses.specs.Layout.{Layout, Made, Tree, Shown, wireIf, use-in-tree, dec-use, use-found}
 use Rattle.uses.specs.Flat.{Holds, Rep, view-is}
-use Rattle.faithful.specs.Table.{Table, val, IsFor, wireOf, since, slot, slotWire, src, Real, progOf, opProg, streamProg, guardProg, resultSlot, plan}
-use Rattle.faithful.specs.Good.{Good, Source, wStart, wOp, wFor, wArg, wNxt, wInv, source, When, byOp, byFor, byEnd, byOut, when}
+use Rattle.faithful.specs.Table.{Table, val, IsFor, wireOf, since, slot, slotWire, src, Real, programOf, opProgram, streamProgram, guardProgram, resultSlot, plan}
+use Rattle.faithful.specs.Good.{Good, Source, fromStart, fromOp, fromFor, fromArg, fromNext, fromCopy, source, When, byOp, byFor, byEnd, byOut, when}
 use Rattle.faithful.specs.Gamma.{Env, Inside, scope, held, Gamma}
-use Rattle.faithful.specs.StepOp.{src-cases}
+use Rattle.faithful.specs.Rows.{src-cases}
 use Rattle.faithful.specs.Begin.{Begun}
 
 -- ---- where the reading has ended
 module _ (tb : Table) (g : Good tb) (env : Env) (t : State) (G : Gamma tb (tb .size) env t) where
-  -- a port of a node is empty
+  -- a use of a node is empty
   end-node : (n : Role) (k : Input) (w : Wire) → src tb (into n k) ≡ some w → t .tok (into n k) ≡ none
   end-node n k w h =
       elim (src-cases tb g (into n k) w h) [
         | inl q ↦ go (q .0) (q .1) (q .2) (q .3) (when tb g (into n k) (q .0) (q .1) (q .2) (q .3))
-        | inr q ↦ G .inns (into n k) w q
+        | inr q ↦ G .inners (into n k) w q
       ]
     where
       off : (v B c : ℕ) → slot tb (into n k) ≡ val v B c → c < tb .size → t .tok (into n k) ≡ none
-      off v B c q l = G .vals (into n k) v B c q .off (λ x. let x3 = x .3 in omega arith)
+      off v B c q l = G .values (into n k) v B c q .off (λ x. let x3 = x .3 in omega arith)
 
       below-size : (L : ℕ) → IsFor tb L → L < tb .size
       below-size L f = let a = g .for-size L f in let b = g .for-first L f in let c = g .for-last L f in omega arith
@@ -64,19 +63,19 @@ module _ (tb : Table) (g : Good tb) (env : Env) (t : State) (G : Gamma tb (tb .s
   end-result r x h =
       let q : slot tb (result r) ≡ val x (tb .size) (suc (tb .size)) = rw h in
       let f0 = g .outer-first in let l0 = g .outer-last in
-      G .vals (result r) x (tb .size) (suc (tb .size)) q .on (omega arith, omega arith, born-by (source tb x (tb .size)), omega arith)
+      G .values (result r) x (tb .size) (suc (tb .size)) q .on (omega arith, omega arith, born-by (source tb x (tb .size)), omega arith)
     where
       born-by : Source tb x (tb .size) → since tb x (tb .size) ≤ tb .size
-      born-by (wStart w a b z) = omega arith
-      born-by (wOp w a b z) = let l = g .op-size x b in omega arith
-      born-by (wFor w a b z) = omega arith
-      born-by (wArg i w a b z) = omega arith
-      born-by (wNxt y w a b z) = let l = g .for-size (tb .loop x) (g .nxt-for x y b) in omega arith
-      born-by (wInv w a z) = omega arith
+      born-by (fromStart w a b z) = omega arith
+      born-by (fromOp w a b z) = let l = g .op-size x b in omega arith
+      born-by (fromFor w a b z) = omega arith
+      born-by (fromArg i w a b z) = omega arith
+      born-by (fromNext y w a b z) = let l = g .for-size (tb .loop x) (g .next-for x y b) in omega arith
+      born-by (fromCopy w a z) = omega arith
 
-  end-port : (p : Use) (w : Wire) → src tb p ≡ some w → ((r : ℕ) × (x : ℕ) × (p ≡ result r) × (tb .row r ≡ out x)) ⊎ (t .tok p ≡ none)
-  end-port (into n k) w h = inr (end-node n k w h)
-  end-port (result r) w h = go (tb .row r) refl h
+  end-use : (p : Use) (w : Wire) → src tb p ≡ some w → ((r : ℕ) × (x : ℕ) × (p ≡ result r) × (tb .row r ≡ out x)) ⊎ (t .tok p ≡ none)
+  end-use (into n k) w h = inr (end-node n k w h)
+  end-use (result r) w h = go (tb .row r) refl h
     where
       go : (d : Row) → tb .row r ≡ d → slotWire tb (resultSlot d (tb .size) (suc (tb .size))) ≡ some w → ((r′ : ℕ) × (x : ℕ) × (_≡_ {A = Use} (result r) (result r′)) × (tb .row r′ ≡ out x)) ⊎ (t .tok (result r) ≡ none)
       go input q k = let z : _≡_ {A = ℕ} 0 1 = cc in absurd (omega arith)
@@ -99,25 +98,25 @@ module _ (tb : Table) (g : Good tb) (env : Env) (t : State) (G : Gamma tb (tb .s
       always : (n : Role) → Real tb n → held tb n env ≡ rest → t .own n ≡ rest
       always n rl h =
           elim (decLe (tb .first (scope tb n)) (tb .size)) [
-            | yes x ↦ elim (decLe (tb .size) (tb .last (scope tb n))) [ yes y ↦ G .recs-in n rl (x, y) ∙ h | no y ↦ G .recs-out n rl (λ l. y (l .1)) ]
-            | no x ↦ G .recs-out n rl (λ l. x (l .0))
+            | yes x ↦ elim (decLe (tb .size) (tb .last (scope tb n))) [ yes y ↦ G .records-in n rl (x, y) ∙ h | no y ↦ G .records-out n rl (λ l. y (l .1)) ]
+            | no x ↦ G .records-out n rl (λ l. x (l .0))
           ]
 
       go : (n : Role) → Real tb n → t .own n ≡ rest
       go (opNode r) rl = always (opNode r) rl refl
-      go (stream L) rl = G .recs-out (stream L) rl (closed L rl)
-      go (gate L) rl = G .recs-out (gate L) rl (closed L rl)
+      go (stream L) rl = G .records-out (stream L) rl (closed L rl)
+      go (gate L) rl = G .records-out (gate L) rl (closed L rl)
       go (guard L) rl = always (guard L) rl refl
       go (copySplit L v) rl = always (copySplit L v) rl refl
-      go (copyInvariant L v) rl = G .recs-out (copyInvariant L v) rl (closed L (rl .0))
-      go (carry a) rl = G .recs-out (carry a) rl (closed (tb .loop a) (g .arg-for a (rl .0) (rl .1)))
+      go (copyInvariant L v) rl = G .records-out (copyInvariant L v) rl (closed L (rl .0))
+      go (carry a) rl = G .records-out (carry a) rl (closed (tb .loop a) (g .arg-for a (rl .0) (rl .1)))
       go (argSplit a) rl = always (argSplit a) rl refl
 
 -- a node at rest with nothing on its inputs is not ready
-quiet-run : (tb : Table) (n : Role) (v : View) → v .own ≡ rest → v .word0 ≡ none → v .word1 ≡ none → v .word2 ≡ none → perform (progOf tb n (v .own)) v ≡ none
-quiet-run tb n v r a b c = ap (λ (z : Record). perform (progOf tb n z) v) r ∙ go n
+quiet-run : (tb : Table) (n : Role) (v : View) → v .own ≡ rest → v .word0 ≡ none → v .word1 ≡ none → v .word2 ≡ none → perform (programOf tb n (v .own)) v ≡ none
+quiet-run tb n v r a b c = ap (λ (z : Record). perform (programOf tb n z) v) r ∙ go n
   where
-    ops : (d : Row) → perform (opProg d rest) v ≡ none
+    ops : (d : Row) → perform (opProgram d rest) v ≡ none
     ops input = refl
     ops (const w) = refl
     ops (op k x y) = rw a
@@ -129,7 +128,7 @@ quiet-run tb n v r a b c = ap (λ (z : Record). perform (progOf tb n z) v) r ∙
     ops unknown = refl
     ops (out x) = refl
 
-    streams : (d : Row) → perform (streamProg d rest) v ≡ none
+    streams : (d : Row) → perform (streamProgram d rest) v ≡ none
     streams input = refl
     streams (const w) = refl
     streams (op k x y) = refl
@@ -141,7 +140,7 @@ quiet-run tb n v r a b c = ap (λ (z : Record). perform (progOf tb n z) v) r ∙
     streams unknown = refl
     streams (out x) = refl
 
-    guards : (d : Row) → perform (guardProg d rest) v ≡ none
+    guards : (d : Row) → perform (guardProgram d rest) v ≡ none
     guards input = refl
     guards (const w) = refl
     guards (op k x y) = refl
@@ -153,7 +152,7 @@ quiet-run tb n v r a b c = ap (λ (z : Record). perform (progOf tb n z) v) r ∙
     guards unknown = refl
     guards (out x) = refl
 
-    go : (n : Role) → perform (progOf tb n rest) v ≡ none
+    go : (n : Role) → perform (programOf tb n rest) v ≡ none
     go (opNode x) = ops (tb .row x)
     go (stream L) = streams (tb .row L)
     go (gate L) = rw a
@@ -186,7 +185,7 @@ module _ (net : Net) {P : Type 0} (pw : P → ℕ) where
     where
       used : (x ≡ pw p) ⊎ OneOf net pw x (q ∷ ps) → Has x (y1 ∷ y2 ∷ below net pw s)
       used (inl m) = inl (m ∙ k)
-      used (inr m) = inr (ports-in net pw s x m)
+      used (inr m) = inr (uses-in net pw s x m)
   fork-quiet {x = x} (forked {q = q} {ps = ps} p f y1 y2 h k s) B o e i (inr c) =
       fork-quiet s B (o .1 .1) (λ z m n. e z (inr (inr m)) (λ u. not z m n u)) i c
     where
@@ -251,11 +250,11 @@ module _ (tb : Table) (net : Net) (nodes′ : ℕ) where
           let c = y .all-wires x l in
           elim (dec-use (plan tb) net L x (L .users (c .0))) [
             | yes u ↦
-                let p = use-port (plan tb) net L x (L .users (c .0)) u in
+                let p = use-found (plan tb) net L x (L .users (c .0)) u in
                 let h = L .users-sound (p .0) (c .0) (c .1) (p .1) in
-                elim (end-port tb g env t Γ (p .0) (c .0) h) [
+                elim (end-use tb g env t Γ (p .0) (c .0) h) [
                   | inl e ↦ inl (e .0, e .1, e .3, p .2 ∙ ap (L .pw) (e .2))
-                  | inr e ↦ inr (ap (B .wt) (p .2) ∙ sh .at-port (p .0) (c .0) h ∙ e)
+                  | inr e ↦ inr (ap (B .wt) (p .2) ∙ sh .at-use (p .0) (c .0) h ∙ e)
                 ]
             | no u ↦ inr (sh .between (c .0) (c .1) x (c .2) u)
           ]
@@ -263,7 +262,7 @@ module _ (tb : Table) (net : Net) (nodes′ : ℕ) where
       end-res : (r x : ℕ) → tb .row r ≡ out x → (B .wt (L .pw (result r)) ≡ some (env x)) × (w : Wire) × (src tb (result r) ≡ some w)
       end-res r x h =
           let q : src tb (result r) ≡ some (wireOf tb x (tb .size)) = rw h in
-          (sh .at-port (result r) (wireOf tb x (tb .size)) q ∙ end-result tb g env t Γ r x h, wireOf tb x (tb .size), q)
+          (sh .at-use (result r) (wireOf tb x (tb .size)) q ∙ end-result tb g env t Γ r x h, wireOf tb x (tb .size), q)
 
       -- no node is ready
       pub node-quiet : (i : ℕ) → i < nodes′ → net .node i (view2 net B i) ≡ none
@@ -273,8 +272,8 @@ module _ (tb : Table) (net : Net) (nodes′ : ℕ) where
           in-none n rl k = go (src tb (into n k)) refl
             where
               go : (w : Option Wire) → src tb (into n k) ≡ w → inTok B (net .input (L .num n) k) ≡ none
-              go none h = ap (inTok B) (L .ins n rl k ∙ ap (λ (z : Option Wire). portOf z (L .pw (into n k))) h)
-              go (some w) h = ap (inTok B) (L .ins n rl k ∙ ap (λ (z : Option Wire). portOf z (L .pw (into n k))) h) ∙ sh .at-port (into n k) w h ∙ end-node tb g env t Γ n k w h
+              go none h = ap (inTok B) (L .ins n rl k ∙ ap (λ (z : Option Wire). wireIf z (L .pw (into n k))) h)
+              go (some w) h = ap (inTok B) (L .ins n rl k ∙ ap (λ (z : Option Wire). wireIf z (L .pw (into n k))) h) ∙ sh .at-use (into n k) w h ∙ end-node tb g env t Γ n k w h
 
           go : ((n : Role) × Real tb n × (i ≡ L .num n)) ⊎ ((w : Wire) × Made (plan tb) w × Has i (L .forks w)) → net .node i (view2 net B i) ≡ none
           go (inl c) =
@@ -315,7 +314,7 @@ module _ (tb : Table) (net : Net) (nodes′ : ℕ) where
           in-W r x h =
               let e = end-res r x h in
               let u = L .users-full (result r) (e .1) (e .2) in
-              y .wires-in (e .1) (u .1) (L .pw (result r)) (port-tree (plan tb) net L (result r) (e .1) (e .2))
+              y .wires-in (e .1) (u .1) (L .pw (result r)) (use-in-tree (plan tb) net L (result r) (e .1) (e .2))
 
           rec-rest : (j : ℕ) → j < nodes′ → B .wr j ≡ rest
           rec-rest j l =

@@ -7,40 +7,40 @@
 --   followed                  a reading that comes to an outcome is followed to it
 --
 -- Assumes nothing.
-use mathlib.Core.Path.{_≡_, refl, sym, ap, ap₂, _∙_, subst, subst₂}
+use mathlib.Core.Path.{_≡_, refl, sym, ap, _∙_, subst, subst₂}
 use mathlib.Core.Logic.{_≢_, _⊎_, inl, inr}
 use mathlib.Core.Bool.{Bool, true, false, cond, _&&_}
-use mathlib.Core.Option.{Option, none, some}
+use mathlib.Core.Option.{some}
 use mathlib.Core.List.{List, [], _∷_, _++_, append-nil, reverse}
-use Prim.Native.Nat.{ℕ, zero, suc, _+_, _*_, _≤_, _<_}
+use Prim.Native.Nat.{ℕ, zero, suc, _≤_, _<_}
 use native.Mathlib.Omega.{arith}
 use native.Mathlib.Decide.{decLt, ℕ-discrete}
 use borrow.Author.Tests.{lt-ltb, le-ltb, eq-eqb, ne-eqb, eqb-true}
-use lib.Dec.{eqb, ltb}
+use lib.Dec.{eqb}
 use Rattle.word.specs.Words.{condition, update, operate}
 use Rattle.step.specs.Kinds.{out1}
 use Rattle.table.specs.Rows.{kindOf, word, size}
 use Rattle.table.specs.Scan.{bodyOf}
-use Rattle.table.specs.Bodies
 use Rattle.table.specs.Bodies.{Row, input, const, op, pick, for, arg, next, end, out, unknown, rowAt, endOf, firstOf, argOf, nextOf}
+use Rattle.table.specs.Bodies
 use Rattle.structure.specs.Structure.{Structure}
-use Rattle.reading.specs.Reading
 use Rattle.reading.specs.Reading.{Opening, opening, Outcome, ended, zeroStep, Step, on, stop, oneTurn, resultsFrom, turn, leave, nextNamed, argNamed, forStep, endStep, endBy, rowStep, step, andThen, readFrom}
+use Rattle.reading.specs.Reading
 use Rattle.lowered.specs.Roles.{Role, stream, gate}
 use Rattle.uses.specs.Machine.{State, Steps, steps-append}
 use Rattle.faithful.specs.Table.{Table, IsFor, isArg, plan}
-use Rattle.faithful.specs.Table
 use Rattle.faithful.specs.Good.{Good}
 use Rattle.faithful.specs.Gamma.{Env, Inside, Gamma}
-use Rattle.faithful.specs.StepOp.{setBy, setTo, choose, body-quiet, plainRow, step-plain, Path, silent, step-op, step-pick}
+use Rattle.faithful.specs.Rows.{setBy, setTo, choose, body-quiet, plainRow, step-plain, Path, silent, step-op, step-pick}
 use Rattle.faithful.specs.Stages.{sayIf}
-use Rattle.faithful.specs.Turn.{isNxt, argsTo, nextsTo, turnEnv, inside-open, inside-none, inside-again, inside-leave}
+use Rattle.faithful.specs.Turn.{isNext, argsTo, nextsTo, turnEnv, inside-open, inside-none, inside-again, inside-leave}
 use Rattle.faithful.specs.For.{step-open, step-none}
 use Rattle.faithful.specs.End.{step-again, step-leave}
-use Rattle.faithful.specs.Tables
 use Rattle.faithful.specs.Carried.{first-is, last-is}
 use Rattle.faithful.specs.Sound.{passing-is-good}
 use Rattle.faithful.specs.Conditions.{Told, turns-other, one-turn-other, told-same, told-opens, told-skips, told-again, told-leaves}
+use Rattle.faithful.specs.Table
+use Rattle.faithful.specs.Tables
 
 and-flip : (a b : Bool) → (a && b) ≡ (b && a)
 and-flip true true = refl
@@ -81,10 +81,10 @@ module _ (t : List ℕ) (S : Structure t) where
       go (out x) e = rw (sym e)
       go unknown e = rw (sym e)
 
-  kind-next : (v : ℕ) → eqb (kindOf t v) 6 ≡ isNxt (tb .row v)
+  kind-next : (v : ℕ) → eqb (kindOf t v) 6 ≡ isNext (tb .row v)
   kind-next v = elim (decLt v (size t)) [ yes l ↦ go (tb .row v) (Tables.row-kind t S v l) | no n ↦ rw (Tables.kind-past t S v (omega arith), Tables.row-past t v (omega arith)) ]
     where
-      go : (d : Row) → Tables.rowKind d ≡ kindOf t v → eqb (kindOf t v) 6 ≡ isNxt d
+      go : (d : Row) → Tables.rowKind d ≡ kindOf t v → eqb (kindOf t v) 6 ≡ isNext d
       go input e = rw (sym e)
       go (const w) e = rw (sym e)
       go (op c x y) e = rw (sym e)
@@ -100,7 +100,7 @@ module _ (t : List ℕ) (S : Structure t) where
   unfolding Bodies.isArg
   arg-test L v = and-flip (eqb (kindOf t v) 5) (eqb (bodyOf t v) L) ∙ ap (λ (b : Bool). eqb (bodyOf t v) L && b) (kind-arg v)
 
-  next-test : (L v : ℕ) → Bodies.isNext t L v ≡ (eqb (bodyOf t v) L && isNxt (tb .row v))
+  next-test : (L v : ℕ) → Bodies.isNext t L v ≡ (eqb (bodyOf t v) L && isNext (tb .row v))
   unfolding Bodies.isNext
   next-test L v = and-flip (eqb (kindOf t v) 6) (eqb (bodyOf t v) L) ∙ ap (λ (b : Bool). eqb (bodyOf t v) L && b) (kind-next v)
 

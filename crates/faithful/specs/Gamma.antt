@@ -1,26 +1,29 @@
--- The configuration of the graph where the reading stands at (pc, env), in closed form, and the reading's steps of one row.
+-- THE CONFIGURATION in closed form: what stands where in the use machine when the reading stands at row pc with the words env.
+--
+--   Live                      a use of v in B until c holds a token at pc: pc is inside B, v is born, and c is not passed
+--   Inside, scope, held       the records that a loop's nodes hold while pc is inside it
+--   Gamma                     so all uses and records
+--   rel                       a loop and another body: one before, behind, inside or around the other
+--   since-head, since-in, since-own
+--                             when a value is born, against a loop's rows
+--
 -- Assumes nothing.
-use mathlib.Core.Path.{_≡_, refl, sym, ap, ap₂, _∙_, subst, subst₂}
+use mathlib.Core.Path.{_≡_, refl, sym, ap, _∙_, subst}
 use mathlib.Core.Logic.{_≢_, _⊎_, inl, inr}
-use mathlib.Core.Bool.{Bool, true, false}
+use mathlib.Core.Bool.{true}
 use mathlib.Core.Option.{Option, none, some}
-use mathlib.Core.List.{List, [], _∷_, _++_}
-use Prim.Native.Nat.{ℕ, zero, suc, _+_, _*_, _≤_, _<_}
+use Prim.Native.Nat.{ℕ, suc, _≤_, _<_}
 use native.Mathlib.Omega.{arith}
 use native.Mathlib.Decide.{ℕ-discrete, decLe}
-use lib.Dec.{T, eqb, eqb→eq, eqb-refl}
-use mir.Facts.{yes-eqb}
-use Rattle.word.specs.Words.{condition, update, operate}
-use Rattle.step.specs.Kinds.{Input, in0, in1, in2, Output, out0, out1, STREAM, GATE, CARRY, INVARIANT, SPLIT, OP, PICK}
-use Rattle.step.specs.Firing.{View, Effect, Program, stop, give, ask, perform, gives, takes, waits, room, fillable}
-use Rattle.step.specs.Machines.{program, rest, inPhase, holding, whether}
-use Rattle.step.specs.Locality.{every-program-is-local, asking-inv, giving-inv, taking-gives}
+use Rattle.word.specs.Words.{update}
+use Rattle.step.specs.Kinds.{in1, in2}
+use Rattle.step.specs.Machines.{rest, inPhase, holding}
 use Rattle.step.specs.declared.Record.{Record}
 use Rattle.table.specs.Bodies.{Row, input, const, op, pick, for, arg, next, end, out, unknown}
-use Rattle.lowered.specs.Roles.{Role, sameRole, opNode, stream, gate, guard, copySplit, copyInvariant, carry, argSplit, Wire, start, output, Use, into, result}
-use Rattle.uses.specs.Machine.{Plan, State, giveBy, takeBy, nextBy, put, drop, listed, given, taken, viewOf, Among, Once, after, one, one-same, one-other, Ready, Steps, steps-append, stage-cover, those}
-use Rattle.faithful.specs.Table.{Table, Slot, val, inner, absent, named, IsFor, wireOf, born, since, slot, slotWire, src, isOp, isStart, Real, progOf, plan}
-use Rattle.faithful.specs.Good.{Inner, Used, Good, Source, wStart, wOp, wFor, wArg, wNxt, wInv, source, ForPort, fStream, fGuard, fSplit, fCarry, When, byOp, byFor, byEnd, byOut, when}
+use Rattle.lowered.specs.Roles.{Role, opNode, stream, gate, guard, copySplit, copyInvariant, carry, argSplit, Wire, Use, into}
+use Rattle.uses.specs.Machine.{State}
+use Rattle.faithful.specs.Table.{Table, val, inner, IsFor, since, slot, isOp, Real}
+use Rattle.faithful.specs.Good.{Inner, Good, fromStart, fromOp, fromFor, fromArg, fromNext, fromCopy, source}
 
 abbrev pub Env : Type 0
 Env = ℕ → ℕ
@@ -72,10 +75,10 @@ module _ (tb : Table) where
 
   -- THE CONFIGURATION
   pub record Gamma (pc : ℕ) (env : Env) (s : State) : Type 0 where
-    pub vals : (p : Use) (v B c : ℕ) → slot tb p ≡ val v B c → Shows (s .tok p) v B c pc env
-    pub inns : (p : Use) (w : Wire) → slot tb p ≡ inner w → s .tok p ≡ none
-    pub recs-in : (n : Role) → Real tb n → Inside (scope n) pc → s .own n ≡ held n env
-    pub recs-out : (n : Role) → Real tb n → (Inside (scope n) pc → ⊥) → s .own n ≡ rest
+    pub values : (p : Use) (v B c : ℕ) → slot tb p ≡ val v B c → Shows (s .tok p) v B c pc env
+    pub inners : (p : Use) (w : Wire) → slot tb p ≡ inner w → s .tok p ≡ none
+    pub records-in : (n : Role) → Real tb n → Inside (scope n) pc → s .own n ≡ held n env
+    pub records-out : (n : Role) → Real tb n → (Inside (scope n) pc → ⊥) → s .own n ≡ rest
 
   pub shows-same : (t t′ : Option ℕ) (v B c pc pc′ : ℕ) (env env′ : Env) → t′ ≡ t → (Live v B c pc → Live v B c pc′) → (Live v B c pc′ → Live v B c pc)
       → (Live v B c pc′ → env′ v ≡ env v) → Shows t v B c pc env → Shows t′ v B c pc′ env′
@@ -148,17 +151,17 @@ module _ (tb : Table) where
     pub since-head : (v B L : ℕ) → IsFor tb L → L < since tb v B → tb .first L < since tb v B
     since-head v B L f h =
         elim (source tb v B) [
-          | wStart _ _ _ z ↦ absurd (omega arith)
-          | wOp _ _ q z ↦ elim (decLe (tb .first L) v) [ yes m ↦ omega arith | no m ↦ absurd (op-not-head L v f q (omega arith) (omega arith)) ]
-          | wFor _ _ _ z ↦ absurd (omega arith)
-          | wArg i _ _ _ z ↦ absurd (omega arith)
-          | wNxt x _ _ q z ↦
-              let m = g .nxt-for v x q in
+          | fromStart _ _ _ z ↦ absurd (omega arith)
+          | fromOp _ _ q z ↦ elim (decLe (tb .first L) v) [ yes m ↦ omega arith | no m ↦ absurd (op-not-head L v f q (omega arith) (omega arith)) ]
+          | fromFor _ _ _ z ↦ absurd (omega arith)
+          | fromArg i _ _ _ z ↦ absurd (omega arith)
+          | fromNext x _ _ q z ↦
+              let m = g .next-for v x q in
               elim (decLe (tb .first L) (tb .last (tb .loop v))) [
                 | yes m ↦ omega arith
                 | no k ↦ absurd (end-not-head L (tb .last (tb .loop v)) f (g .for-end (tb .loop v) m) (omega arith) (omega arith))
               ]
-          | wInv _ _ z ↦ absurd (omega arith)
+          | fromCopy _ _ z ↦ absurd (omega arith)
         ]
 
     -- a value born in a loop L stands in L or deeper, or is a NEXT of L
@@ -166,44 +169,44 @@ module _ (tb : Table) where
         → ((tb .first L ≤ tb .first B) × (tb .last B ≤ tb .last L)) ⊎ ((x : ℕ) × (tb .row v ≡ next x) × (tb .loop v ≡ L) × (tb .home v ≡ B))
     since-in v B L f h k =
         elim (source tb v B) [
-          | wStart _ _ _ z ↦ absurd (omega arith)
-          | wOp _ e q z ↦
+          | fromStart _ _ _ z ↦ absurd (omega arith)
+          | fromOp _ e q z ↦
               let i = subst (λ (y : ℕ). Inner tb y v) (sym (g .op-home v q) ∙ e) (g .op-place v q) in
               let ne : L ≢ v = λ c. op-not-head L v f q (omega arith) (let a = g .for-first L f in omega arith) in
               inl (i .within L f (omega arith) (omega arith))
-          | wFor _ _ _ z ↦ absurd (omega arith)
-          | wArg i _ _ _ z ↦ absurd (omega arith)
-          | wNxt x _ e q z ↦
-              let m = g .nxt-for v x q in
+          | fromFor _ _ _ z ↦ absurd (omega arith)
+          | fromArg i _ _ _ z ↦ absurd (omega arith)
+          | fromNext x _ e q z ↦
+              let m = g .next-for v x q in
               let a = g .for-first (tb .loop v) m in let b = g .for-last (tb .loop v) m in
               elim (ℕ-discrete (tb .loop v) L) [
                 | yes y ↦ inr (x, q, y, e)
                 | no y ↦
-                    let i = subst (λ (w : ℕ). Inner tb w (tb .loop v)) (sym (g .nxt-home v x q) ∙ e) (g .for-reads (tb .loop v) m) in
+                    let i = subst (λ (w : ℕ). Inner tb w (tb .loop v)) (sym (g .next-home v x q) ∙ e) (g .for-reads (tb .loop v) m) in
                     elim (decLe (tb .loop v) L) [
                       | yes c ↦ let d = g .nest (tb .loop v) L m f (omega arith) (omega arith) in absurd (omega arith)
                       | no c ↦ inl (i .within L f (omega arith) (omega arith))
                     ]
               ]
-          | wInv _ _ z ↦ absurd (omega arith)
+          | fromCopy _ _ z ↦ absurd (omega arith)
         ]
 
     -- in its own loop a value stands from the start or is born behind the head
     pub since-own : (v L : ℕ) → IsFor tb L → (since tb v L ≡ 0) ⊎ (tb .first L < since tb v L)
     since-own v L f =
         elim (source tb v L) [
-          | wStart _ _ _ z ↦ inl z
-          | wOp _ e q z ↦
+          | fromStart _ _ _ z ↦ inl z
+          | fromOp _ e q z ↦
               let i = subst (λ (y : ℕ). Inner tb y v) (sym (g .op-home v q) ∙ e) (g .op-place v q) in
               let l = i .low in inr (omega arith)
-          | wFor _ _ _ z ↦ inl z
-          | wArg i _ _ _ z ↦ inl z
-          | wNxt x _ e q z ↦
-              let m = g .nxt-for v x q in
-              let i = subst (λ (w : ℕ). Inner tb w (tb .loop v)) (sym (g .nxt-home v x q) ∙ e) (g .for-reads (tb .loop v) m) in
+          | fromFor _ _ _ z ↦ inl z
+          | fromArg i _ _ _ z ↦ inl z
+          | fromNext x _ e q z ↦
+              let m = g .next-for v x q in
+              let i = subst (λ (w : ℕ). Inner tb w (tb .loop v)) (sym (g .next-home v x q) ∙ e) (g .for-reads (tb .loop v) m) in
               let a = g .for-first (tb .loop v) m in let b = g .for-last (tb .loop v) m in let l = i .low in
               inr (omega arith)
-          | wInv _ _ z ↦ inl z
+          | fromCopy _ _ z ↦ inl z
         ]
 
     -- records inside a loop look only at words of rows up to its FOR

@@ -1,25 +1,24 @@
--- What is asked of a table, and what follows for the sources of values and for the times of uses.
+-- What the following of the reading asks of a table, in row numbers; and what follows for each use.
+--
+--   Inner                     a row stands in a body, and no loop between
+--   Used                      a value named in a body by what waits until a row
+--   Good                      all facts together; Sound proves them of every table that passes
+--   Source, source            where the wire of a value in a body comes from
+--   When, when                which use waits until which row: by an OP or PICK, by a FOR, by an END, for ever
+--   Inward, inward            which uses read a wire of their own loop
+--
 -- Assumes nothing.
-use mathlib.Core.Path.{_≡_, refl, sym, ap, ap₂, _∙_, subst}
-use mathlib.Core.Logic.{_≢_, _⊎_, inl, inr}
+use mathlib.Core.Path.{_≡_, refl, sym, ap, _∙_, subst}
+use mathlib.Core.Logic.{_≢_, _⊎_}
 use mathlib.Core.Bool.{Bool, true, false}
-use mathlib.Core.Option.{Option, none, some}
-use mathlib.Core.List.{List, [], _∷_, _++_}
-use Prim.Native.Nat.{ℕ, zero, suc, _+_, _*_, _≤_, _<_}
+use Prim.Native.Nat.{ℕ, suc, _≤_, _<_}
 use native.Mathlib.Omega.{arith}
-use native.Mathlib.Decide.{ℕ-discrete}
-use lib.Dec.{T, eqb, eqb→eq, eqb-refl}
 use mir.Facts.{yes-eqb}
-use Rattle.word.specs.Words.{condition, update, operate}
-use Rattle.step.specs.Kinds.{Input, in0, in1, in2, Output, out0, out1, STREAM, GATE, CARRY, INVARIANT, SPLIT, OP, PICK}
-use Rattle.step.specs.Firing.{View, Effect, Program, stop, give, ask, perform, gives, takes, waits, room, fillable}
-use Rattle.step.specs.Machines.{program, rest, inPhase, holding, whether}
-use Rattle.step.specs.Locality.{every-program-is-local, asking-inv, giving-inv, taking-gives}
-use Rattle.step.specs.declared.Record.{Record}
+use lib.Dec.{T, eqb, eqb→eq}
+use Rattle.step.specs.Kinds.{Input, in0, in1, in2, out0, out1}
 use Rattle.table.specs.Bodies.{Row, input, const, op, pick, for, arg, next, end, out, unknown}
-use Rattle.lowered.specs.Roles.{Role, sameRole, opNode, stream, gate, guard, copySplit, copyInvariant, carry, argSplit, Wire, start, output, Use, into, result}
-use Rattle.uses.specs.Machine.{Plan, State, giveBy, takeBy, nextBy, put, drop, listed, given, taken, viewOf, Among, Once, after, one, one-same, one-other, Ready, Steps, steps-append, stage-cover, those}
-use Rattle.faithful.specs.Table.{Table, Slot, val, inner, absent, named, homeWire, wireBy, bornBy, sinceBy, opSlot, streamSlot, guardSlot, gateSlot, copySplitSlot, copyInvariantSlot, carrySlot, argSplitSlot, resultSlot, IsFor, outer, wireOf, born, since, slot, slotWire, src, isOp, isStart, isArg, isForRow, isIn, plan}
+use Rattle.lowered.specs.Roles.{opNode, stream, gate, guard, copySplit, copyInvariant, carry, argSplit, Wire, start, output, Use, into, result}
+use Rattle.faithful.specs.Table.{Table, val, inner, named, opSlot, streamSlot, guardSlot, gateSlot, copySplitSlot, copyInvariantSlot, carrySlot, argSplitSlot, resultSlot, IsFor, wireOf, born, since, slot, isOp, isStart, isArg, isForRow, isIn}
 
 module _ (tb : Table) where
   -- row r stands in body B, and B is the innermost there
@@ -66,13 +65,13 @@ module _ (tb : Table) where
     pub arg-next-loop : (a i : ℕ) → tb .row a ≡ arg i → tb .loop (tb .nextOf a) ≡ tb .loop a
     pub arg-next-arg : (a i : ℕ) → tb .row a ≡ arg i → tb .argOf (tb .nextOf a) ≡ a
     -- NEXT
-    pub nxt-for : (x v : ℕ) → tb .row x ≡ next v → IsFor tb (tb .loop x)
-    pub nxt-low : (x v : ℕ) → tb .row x ≡ next v → tb .first (tb .loop x) ≤ x
-    pub nxt-high : (x v : ℕ) → tb .row x ≡ next v → x < tb .last (tb .loop x)
-    pub nxt-home : (x v : ℕ) → tb .row x ≡ next v → tb .home x ≡ tb .reads (tb .loop x)
-    pub nxt-arg : (x v : ℕ) → tb .row x ≡ next v → (i : ℕ) × (tb .row (tb .argOf x) ≡ arg i)
-    pub nxt-arg-loop : (x v : ℕ) → tb .row x ≡ next v → tb .loop (tb .argOf x) ≡ tb .loop x
-    pub nxt-arg-next : (x v : ℕ) → tb .row x ≡ next v → tb .nextOf (tb .argOf x) ≡ x
+    pub next-for : (x v : ℕ) → tb .row x ≡ next v → IsFor tb (tb .loop x)
+    pub next-low : (x v : ℕ) → tb .row x ≡ next v → tb .first (tb .loop x) ≤ x
+    pub next-high : (x v : ℕ) → tb .row x ≡ next v → x < tb .last (tb .loop x)
+    pub next-home : (x v : ℕ) → tb .row x ≡ next v → tb .home x ≡ tb .reads (tb .loop x)
+    pub next-arg : (x v : ℕ) → tb .row x ≡ next v → (i : ℕ) × (tb .row (tb .argOf x) ≡ arg i)
+    pub next-arg-loop : (x v : ℕ) → tb .row x ≡ next v → tb .loop (tb .argOf x) ≡ tb .loop x
+    pub next-arg-next : (x v : ℕ) → tb .row x ≡ next v → tb .nextOf (tb .argOf x) ≡ x
     -- END
     pub end-for : (r : ℕ) → tb .row r ≡ end → r < tb .size → IsFor tb (tb .loop r)
     pub end-last : (r : ℕ) → tb .row r ≡ end → r < tb .size → tb .last (tb .loop r) ≡ r
@@ -90,40 +89,40 @@ module _ (tb : Table) where
 
   -- ---- where the wire of v in B comes from
   pub data Source (v B : ℕ) : Type 0 where
-    wStart : wireOf tb v B ≡ start v → tb .home v ≡ B → isStart tb (tb .row v) ≡ true → since tb v B ≡ 0 → Source v B
-    wOp : wireOf tb v B ≡ output (opNode v) out0 → tb .home v ≡ B → isOp tb (tb .row v) ≡ true → since tb v B ≡ suc v → Source v B
-    wFor : wireOf tb v B ≡ output (gate v) out0 → tb .home v ≡ B → IsFor tb v → since tb v B ≡ 0 → Source v B
-    wArg : (i : ℕ) → wireOf tb v B ≡ output (argSplit v) out0 → tb .home v ≡ B → tb .row v ≡ arg i → since tb v B ≡ 0 → Source v B
-    wNxt : (x : ℕ) → wireOf tb v B ≡ output (argSplit (tb .argOf v)) out1 → tb .home v ≡ B → tb .row v ≡ next x → since tb v B ≡ suc (tb .last (tb .loop v)) → Source v B
-    wInv : wireOf tb v B ≡ output (copyInvariant B v) out0 → tb .home v ≢ B → since tb v B ≡ 0 → Source v B
+    fromStart : wireOf tb v B ≡ start v → tb .home v ≡ B → isStart tb (tb .row v) ≡ true → since tb v B ≡ 0 → Source v B
+    fromOp : wireOf tb v B ≡ output (opNode v) out0 → tb .home v ≡ B → isOp tb (tb .row v) ≡ true → since tb v B ≡ suc v → Source v B
+    fromFor : wireOf tb v B ≡ output (gate v) out0 → tb .home v ≡ B → IsFor tb v → since tb v B ≡ 0 → Source v B
+    fromArg : (i : ℕ) → wireOf tb v B ≡ output (argSplit v) out0 → tb .home v ≡ B → tb .row v ≡ arg i → since tb v B ≡ 0 → Source v B
+    fromNext : (x : ℕ) → wireOf tb v B ≡ output (argSplit (tb .argOf v)) out1 → tb .home v ≡ B → tb .row v ≡ next x → since tb v B ≡ suc (tb .last (tb .loop v)) → Source v B
+    fromCopy : wireOf tb v B ≡ output (copyInvariant B v) out0 → tb .home v ≢ B → since tb v B ≡ 0 → Source v B
 
   pub source : (v B : ℕ) → Source v B
   unfolding wireOf since
   source v B = go (eqb (tb .home v) B) refl (tb .row v) refl
     where
       go : (b : Bool) → eqb (tb .home v) B ≡ b → (r : Row) → tb .row v ≡ r → Source v B
-      go false e r q = wInv (rw e) (λ h. subst T e (yes-eqb h)) (rw e)
-      go true e input q = wStart (rw (e, q)) (eqb→eq (tb .home v) B (subst T (sym e) tt)) (rw q) (rw (e, q))
-      go true e (const w) q = wStart (rw (e, q)) (eqb→eq (tb .home v) B (subst T (sym e) tt)) (rw q) (rw (e, q))
-      go true e (op c x y) q = wOp (rw (e, q)) (eqb→eq (tb .home v) B (subst T (sym e) tt)) (rw q) (rw (e, q))
-      go true e (pick f x y) q = wOp (rw (e, q)) (eqb→eq (tb .home v) B (subst T (sym e) tt)) (rw q) (rw (e, q))
-      go true e (for s t b u c) q = wFor (rw (e, q)) (eqb→eq (tb .home v) B (subst T (sym e) tt)) (s, t, b, u, c, q) (rw (e, q))
-      go true e (arg i) q = wArg i (rw (e, q)) (eqb→eq (tb .home v) B (subst T (sym e) tt)) q (rw (e, q))
-      go true e (next x) q = wNxt x (rw (e, q)) (eqb→eq (tb .home v) B (subst T (sym e) tt)) q (rw (e, q))
-      go true e end q = wStart (rw (e, q)) (eqb→eq (tb .home v) B (subst T (sym e) tt)) (rw q) (rw (e, q))
-      go true e unknown q = wStart (rw (e, q)) (eqb→eq (tb .home v) B (subst T (sym e) tt)) (rw q) (rw (e, q))
-      go true e (out x) q = wStart (rw (e, q)) (eqb→eq (tb .home v) B (subst T (sym e) tt)) (rw q) (rw (e, q))
+      go false e r q = fromCopy (rw e) (λ h. subst T e (yes-eqb h)) (rw e)
+      go true e input q = fromStart (rw (e, q)) (eqb→eq (tb .home v) B (subst T (sym e) tt)) (rw q) (rw (e, q))
+      go true e (const w) q = fromStart (rw (e, q)) (eqb→eq (tb .home v) B (subst T (sym e) tt)) (rw q) (rw (e, q))
+      go true e (op c x y) q = fromOp (rw (e, q)) (eqb→eq (tb .home v) B (subst T (sym e) tt)) (rw q) (rw (e, q))
+      go true e (pick f x y) q = fromOp (rw (e, q)) (eqb→eq (tb .home v) B (subst T (sym e) tt)) (rw q) (rw (e, q))
+      go true e (for s t b u c) q = fromFor (rw (e, q)) (eqb→eq (tb .home v) B (subst T (sym e) tt)) (s, t, b, u, c, q) (rw (e, q))
+      go true e (arg i) q = fromArg i (rw (e, q)) (eqb→eq (tb .home v) B (subst T (sym e) tt)) q (rw (e, q))
+      go true e (next x) q = fromNext x (rw (e, q)) (eqb→eq (tb .home v) B (subst T (sym e) tt)) q (rw (e, q))
+      go true e end q = fromStart (rw (e, q)) (eqb→eq (tb .home v) B (subst T (sym e) tt)) (rw q) (rw (e, q))
+      go true e unknown q = fromStart (rw (e, q)) (eqb→eq (tb .home v) B (subst T (sym e) tt)) (rw q) (rw (e, q))
+      go true e (out x) q = fromStart (rw (e, q)) (eqb→eq (tb .home v) B (subst T (sym e) tt)) (rw q) (rw (e, q))
 
-  -- ---- which port waits until row c
-  pub data ForPort (p : Use) (L : ℕ) : Type 0 where
-    fStream : (k : Input) → p ≡ into (stream L) k → ForPort p L
-    fGuard : (k : Input) → p ≡ into (guard L) k → ForPort p L
-    fSplit : (v : ℕ) → p ≡ into (copySplit L v) in1 → tb .carried L v ≡ true → ForPort p L
-    fCarry : (a i : ℕ) → p ≡ into (carry a) in1 → tb .row a ≡ arg i → tb .loop a ≡ L → ForPort p L
+  -- ---- which use waits until row c
+  pub data ForUse (p : Use) (L : ℕ) : Type 0 where
+    intoStream : (k : Input) → p ≡ into (stream L) k → ForUse p L
+    intoGuard : (k : Input) → p ≡ into (guard L) k → ForUse p L
+    intoSplit : (v : ℕ) → p ≡ into (copySplit L v) in1 → tb .carried L v ≡ true → ForUse p L
+    intoCarry : (a i : ℕ) → p ≡ into (carry a) in1 → tb .row a ≡ arg i → tb .loop a ≡ L → ForUse p L
 
   pub data When (p : Use) (v B c : ℕ) : Type 0 where
     byOp : (k : Input) → p ≡ into (opNode c) k → isOp tb (tb .row c) ≡ true → When p v B c
-    byFor : IsFor tb c → ForPort p c → B ≡ tb .reads c → When p v B c
+    byFor : IsFor tb c → ForUse p c → B ≡ tb .reads c → When p v B c
     byEnd : (a i : ℕ) → p ≡ into (carry a) in2 → tb .row a ≡ arg i → c ≡ tb .last (tb .loop a) → B ≡ tb .loop a → v ≡ named (tb .row (tb .nextOf a)) → When p v B c
     byOut : (q : ℕ) → p ≡ result q → c ≡ suc (tb .size) → B ≡ tb .size → When p v B c
 
@@ -147,18 +146,18 @@ module _ (tb : Table) where
   when-op r (out x) k v B c q h = let z : _≡_ {A = ℕ} 0 1 = cc in absurd (omega arith)
 
   -- L is c and B is its body: by the equations
-  at-for : (p : Use) (L v B c : ℕ) → L ≡ c → tb .reads L ≡ B → IsFor tb L → ForPort p L → When p v B c
+  at-for : (p : Use) (L v B c : ℕ) → L ≡ c → tb .reads L ≡ B → IsFor tb L → ForUse p L → When p v B c
   at-for p L v B c e d f g =
-      byFor (subst (IsFor tb) e f) (subst (ForPort p) e g) (sym d ∙ ap (tb .reads) e)
+      byFor (subst (IsFor tb) e f) (subst (ForUse p) e g) (sym d ∙ ap (tb .reads) e)
 
   when-stream : (L : ℕ) (w : Row) (k : Input) (v B c : ℕ) → tb .row L ≡ w → streamSlot w (tb .reads L) L k ≡ val v B c → When (into (stream L) k) v B c
   when-stream L input k v B c q h = let z : _≡_ {A = ℕ} 0 1 = cc in absurd (omega arith)
   when-stream L (const x) k v B c q h = let z : _≡_ {A = ℕ} 0 1 = cc in absurd (omega arith)
   when-stream L (op d x y) k v B c q h = let z : _≡_ {A = ℕ} 0 1 = cc in absurd (omega arith)
   when-stream L (pick f x y) k v B c q h = let z : _≡_ {A = ℕ} 0 1 = cc in absurd (omega arith)
-  when-stream L (for s t b u d) in0 v B c q h = at-for (into (stream L) in0) L v B c (cc) (cc) (s, t, b, u, d, q) (fStream in0 refl)
-  when-stream L (for s t b u d) in1 v B c q h = at-for (into (stream L) in1) L v B c (cc) (cc) (s, t, b, u, d, q) (fStream in1 refl)
-  when-stream L (for s t b u d) in2 v B c q h = at-for (into (stream L) in2) L v B c (cc) (cc) (s, t, b, u, d, q) (fStream in2 refl)
+  when-stream L (for s t b u d) in0 v B c q h = at-for (into (stream L) in0) L v B c (cc) (cc) (s, t, b, u, d, q) (intoStream in0 refl)
+  when-stream L (for s t b u d) in1 v B c q h = at-for (into (stream L) in1) L v B c (cc) (cc) (s, t, b, u, d, q) (intoStream in1 refl)
+  when-stream L (for s t b u d) in2 v B c q h = at-for (into (stream L) in2) L v B c (cc) (cc) (s, t, b, u, d, q) (intoStream in2 refl)
   when-stream L (arg i) k v B c q h = let z : _≡_ {A = ℕ} 0 1 = cc in absurd (omega arith)
   when-stream L (next x) k v B c q h = let z : _≡_ {A = ℕ} 0 1 = cc in absurd (omega arith)
   when-stream L end k v B c q h = let z : _≡_ {A = ℕ} 0 1 = cc in absurd (omega arith)
@@ -170,8 +169,8 @@ module _ (tb : Table) where
   when-guard L (const x) k v B c q h = let z : _≡_ {A = ℕ} 0 1 = cc in absurd (omega arith)
   when-guard L (op d x y) k v B c q h = let z : _≡_ {A = ℕ} 0 1 = cc in absurd (omega arith)
   when-guard L (pick f x y) k v B c q h = let z : _≡_ {A = ℕ} 0 1 = cc in absurd (omega arith)
-  when-guard L (for s t b u d) in0 v B c q h = at-for (into (guard L) in0) L v B c (cc) (cc) (s, t, b, u, d, q) (fGuard in0 refl)
-  when-guard L (for s t b u d) in1 v B c q h = at-for (into (guard L) in1) L v B c (cc) (cc) (s, t, b, u, d, q) (fGuard in1 refl)
+  when-guard L (for s t b u d) in0 v B c q h = at-for (into (guard L) in0) L v B c (cc) (cc) (s, t, b, u, d, q) (intoGuard in0 refl)
+  when-guard L (for s t b u d) in1 v B c q h = at-for (into (guard L) in1) L v B c (cc) (cc) (s, t, b, u, d, q) (intoGuard in1 refl)
   when-guard L (for s t b u d) in2 v B c q h = let z : _≡_ {A = ℕ} 0 1 = cc in absurd (omega arith)
   when-guard L (arg i) k v B c q h = let z : _≡_ {A = ℕ} 0 1 = cc in absurd (omega arith)
   when-guard L (next x) k v B c q h = let z : _≡_ {A = ℕ} 0 1 = cc in absurd (omega arith)
@@ -187,7 +186,7 @@ module _ (tb : Table) where
   when-carry g a (pick f x y) k v B c q h = let z : _≡_ {A = ℕ} 0 1 = cc in absurd (omega arith)
   when-carry g a (for s t b u d) k v B c q h = let z : _≡_ {A = ℕ} 0 1 = cc in absurd (omega arith)
   when-carry g a (arg i) in0 v B c q h = let z : _≡_ {A = ℕ} 0 1 = cc in absurd (omega arith)
-  when-carry g a (arg i) in1 v B c q h = at-for (into (carry a) in1) (tb .loop a) v B c (cc) (cc) (g .arg-for a i q) (fCarry a i refl q refl)
+  when-carry g a (arg i) in1 v B c q h = at-for (into (carry a) in1) (tb .loop a) v B c (cc) (cc) (g .arg-for a i q) (intoCarry a i refl q refl)
   when-carry g a (arg i) in2 v B c q h = byEnd a i refl q (cc) (cc) (cc)
   when-carry g a (next x) k v B c q h = let z : _≡_ {A = ℕ} 0 1 = cc in absurd (omega arith)
   when-carry g a end k v B c q h = let z : _≡_ {A = ℕ} 0 1 = cc in absurd (omega arith)
@@ -197,7 +196,7 @@ module _ (tb : Table) where
   when-split : Good → (L u : ℕ) (b : Bool) (k : Input) (v B c : ℕ) → tb .carried L u ≡ b → copySplitSlot b (tb .reads L) L u k ≡ val v B c → When (into (copySplit L u) k) v B c
   when-split g L u false k v B c q h = let z : _≡_ {A = ℕ} 0 1 = cc in absurd (omega arith)
   when-split g L u true in0 v B c q h = let z : _≡_ {A = ℕ} 0 1 = cc in absurd (omega arith)
-  when-split g L u true in1 v B c q h = at-for (into (copySplit L u) in1) L v B c (cc) (cc) (g .in-for L u q) (fSplit u refl q)
+  when-split g L u true in1 v B c q h = at-for (into (copySplit L u) in1) L v B c (cc) (cc) (g .in-for L u q) (intoSplit u refl q)
   when-split g L u true in2 v B c q h = let z : _≡_ {A = ℕ} 0 1 = cc in absurd (omega arith)
 
   when-out : (q : ℕ) (r : Row) (v B c : ℕ) → tb .row q ≡ r → resultSlot r (tb .size) (suc (tb .size)) ≡ val v B c → When (result q) v B c
@@ -241,16 +240,16 @@ module _ (tb : Table) where
   when g (into (argSplit a) k) v B c h = absurd (not-asplit (isArg (tb .row a)) (tb .loop a) a k v B c h)
   when g (result q) v B c h = when-out q (tb .row q) v B c refl h
 
-  -- ---- inner ports
+  -- ---- inner uses
   pub data Inward (p : Use) (w : Wire) : Type 0 where
-    nGate0 : (L : ℕ) → p ≡ into (gate L) in0 → w ≡ output (stream L) out0 → isForRow (tb .row L) ≡ true → Inward p w
-    nGate1 : (L : ℕ) → p ≡ into (gate L) in1 → w ≡ output (stream L) out1 → isForRow (tb .row L) ≡ true → Inward p w
-    nSplit : (L v : ℕ) → p ≡ into (copySplit L v) in0 → w ≡ output (guard L) out0 → tb .carried L v ≡ true → Inward p w
-    nInv0 : (L v : ℕ) → p ≡ into (copyInvariant L v) in0 → w ≡ output (gate L) out1 → tb .carried L v ≡ true → Inward p w
-    nInv1 : (L v : ℕ) → p ≡ into (copyInvariant L v) in1 → w ≡ output (copySplit L v) out0 → tb .carried L v ≡ true → Inward p w
-    nCarry : (a i : ℕ) → p ≡ into (carry a) in0 → w ≡ output (stream (tb .loop a)) out1 → tb .row a ≡ arg i → Inward p w
-    nArg0 : (a : ℕ) → p ≡ into (argSplit a) in0 → w ≡ output (stream (tb .loop a)) out1 → isArg (tb .row a) ≡ true → Inward p w
-    nArg1 : (a : ℕ) → p ≡ into (argSplit a) in1 → w ≡ output (carry a) out0 → isArg (tb .row a) ≡ true → Inward p w
+    gateIndex : (L : ℕ) → p ≡ into (gate L) in0 → w ≡ output (stream L) out0 → isForRow (tb .row L) ≡ true → Inward p w
+    gateCondition : (L : ℕ) → p ≡ into (gate L) in1 → w ≡ output (stream L) out1 → isForRow (tb .row L) ≡ true → Inward p w
+    splitGuard : (L v : ℕ) → p ≡ into (copySplit L v) in0 → w ≡ output (guard L) out0 → tb .carried L v ≡ true → Inward p w
+    copyCondition : (L v : ℕ) → p ≡ into (copyInvariant L v) in0 → w ≡ output (gate L) out1 → tb .carried L v ≡ true → Inward p w
+    copySeed : (L v : ℕ) → p ≡ into (copyInvariant L v) in1 → w ≡ output (copySplit L v) out0 → tb .carried L v ≡ true → Inward p w
+    carryCondition : (a i : ℕ) → p ≡ into (carry a) in0 → w ≡ output (stream (tb .loop a)) out1 → tb .row a ≡ arg i → Inward p w
+    argCondition : (a : ℕ) → p ≡ into (argSplit a) in0 → w ≡ output (stream (tb .loop a)) out1 → isArg (tb .row a) ≡ true → Inward p w
+    argCarried : (a : ℕ) → p ≡ into (argSplit a) in1 → w ≡ output (carry a) out0 → isArg (tb .row a) ≡ true → Inward p w
 
   in-op : (r : ℕ) (d : Row) (k : Input) (w : Wire) → opSlot d (tb .reads r) r k ≡ inner w → ⊥
   in-op r input k w h = let z : _≡_ {A = ℕ} 0 1 = cc in omega arith
@@ -314,7 +313,7 @@ module _ (tb : Table) where
   in-carry a (op d y u) B L x e k w q l h = let z : _≡_ {A = ℕ} 0 1 = cc in absurd (omega arith)
   in-carry a (pick f y u) B L x e k w q l h = let z : _≡_ {A = ℕ} 0 1 = cc in absurd (omega arith)
   in-carry a (for s t b u d) B L x e k w q l h = let z : _≡_ {A = ℕ} 0 1 = cc in absurd (omega arith)
-  in-carry a (arg i) B L x e in0 w q l h = nCarry a i refl (cc) q
+  in-carry a (arg i) B L x e in0 w q l h = carryCondition a i refl (cc) q
   in-carry a (arg i) B L x e in1 w q l h = let z : _≡_ {A = ℕ} 0 1 = cc in absurd (omega arith)
   in-carry a (arg i) B L x e in2 w q l h = let z : _≡_ {A = ℕ} 0 1 = cc in absurd (omega arith)
   in-carry a (next y) B L x e k w q l h = let z : _≡_ {A = ℕ} 0 1 = cc in absurd (omega arith)
@@ -324,26 +323,26 @@ module _ (tb : Table) where
 
   in-split : (L u : ℕ) (b : Bool) (k : Input) (w : Wire) → tb .carried L u ≡ b → copySplitSlot b (tb .reads L) L u k ≡ inner w → Inward (into (copySplit L u) k) w
   in-split L u false k w q h = let z : _≡_ {A = ℕ} 0 1 = cc in absurd (omega arith)
-  in-split L u true in0 w q h = nSplit L u refl (cc) q
+  in-split L u true in0 w q h = splitGuard L u refl (cc) q
   in-split L u true in1 w q h = let z : _≡_ {A = ℕ} 0 1 = cc in absurd (omega arith)
   in-split L u true in2 w q h = let z : _≡_ {A = ℕ} 0 1 = cc in absurd (omega arith)
 
   in-gate : (L : ℕ) (b : Bool) (k : Input) (w : Wire) → isForRow (tb .row L) ≡ b → gateSlot b L k ≡ inner w → Inward (into (gate L) k) w
   in-gate L false k w q h = let z : _≡_ {A = ℕ} 0 1 = cc in absurd (omega arith)
-  in-gate L true in0 w q h = nGate0 L refl (cc) q
-  in-gate L true in1 w q h = nGate1 L refl (cc) q
+  in-gate L true in0 w q h = gateIndex L refl (cc) q
+  in-gate L true in1 w q h = gateCondition L refl (cc) q
   in-gate L true in2 w q h = let z : _≡_ {A = ℕ} 0 1 = cc in absurd (omega arith)
 
   in-inv : (L u : ℕ) (b : Bool) (k : Input) (w : Wire) → tb .carried L u ≡ b → copyInvariantSlot b L u k ≡ inner w → Inward (into (copyInvariant L u) k) w
   in-inv L u false k w q h = let z : _≡_ {A = ℕ} 0 1 = cc in absurd (omega arith)
-  in-inv L u true in0 w q h = nInv0 L u refl (cc) q
-  in-inv L u true in1 w q h = nInv1 L u refl (cc) q
+  in-inv L u true in0 w q h = copyCondition L u refl (cc) q
+  in-inv L u true in1 w q h = copySeed L u refl (cc) q
   in-inv L u true in2 w q h = let z : _≡_ {A = ℕ} 0 1 = cc in absurd (omega arith)
 
   in-asplit : (a : ℕ) (b : Bool) (k : Input) (w : Wire) → isArg (tb .row a) ≡ b → argSplitSlot b (tb .loop a) a k ≡ inner w → Inward (into (argSplit a) k) w
   in-asplit a false k w q h = let z : _≡_ {A = ℕ} 0 1 = cc in absurd (omega arith)
-  in-asplit a true in0 w q h = nArg0 a refl (cc) q
-  in-asplit a true in1 w q h = nArg1 a refl (cc) q
+  in-asplit a true in0 w q h = argCondition a refl (cc) q
+  in-asplit a true in1 w q h = argCarried a refl (cc) q
   in-asplit a true in2 w q h = let z : _≡_ {A = ℕ} 0 1 = cc in absurd (omega arith)
 
   pub inward : (p : Use) (w : Wire) → slot tb p ≡ inner w → Inward p w

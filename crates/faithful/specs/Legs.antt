@@ -7,10 +7,10 @@
 --   free-apart, free-all      the wires behind different wires are different, and every number is taken; likewise the nodes
 --
 -- Assumes nothing.
-use mathlib.Core.Path.{_≡_, refl, sym, ap, ap₂, _∙_, subst}
-use mathlib.Core.Logic.{_≢_, _⊎_, inl, inr}
+use mathlib.Core.Path.{_≡_, refl, sym, ap, _∙_, subst}
+use mathlib.Core.Logic.{_⊎_, inl, inr}
 use mathlib.Core.Option.{Option, none, some}
-use mathlib.Core.List.{List, [], _∷_, _++_}
+use mathlib.Core.List.{List, [], _∷_}
 use Prim.Native.Nat.{ℕ, zero, suc, _+_, _≤_, _<_}
 use native.Mathlib.Omega.{arith}
 use native.Mathlib.Decide.{ℕ-discrete, decLt}
@@ -22,8 +22,8 @@ use Rattle.state.specs.Net.{stepAt, netOf}
 use Rattle.lowered.specs.Roles.{Use, sameUse}
 use Rattle.lowered.specs.Lower.{drainNode, forkNode, forkRows, forkWires, forkNodes, freeAt, allForkWires, allForkNodes, legBy, legOf}
 use Rattle.uses.specs.Machine.{Among}
-use Rattle.uses.specs.Machine
 use Rattle.uses.specs.Wires.{Has, Once, IsFork, IsDrain, Spread, drained, alone, forked, below, nodes}
+use Rattle.uses.specs.Machine
 
 abbrev pub upFrom : ℕ → ℕ → List ℕ
 upFrom j zero = []

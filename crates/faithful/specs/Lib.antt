@@ -1,25 +1,32 @@
+-- The lowered table means what it says. Start with Statements.
+-- A table by its structure, and its configuration where the reading stands.
 pub mod Table
 pub mod Good
 pub mod Gamma
-pub mod StepOp
+-- One step of the reading: rows, then loops.
+pub mod Rows
 pub mod Loop
 pub mod Stages
 pub mod Turn
 pub mod For
 pub mod End
-pub mod Begin
-pub mod Finish
+-- Tables of words have that structure, and the reading is followed.
 pub mod Tables
 pub mod Carried
 pub mod Sound
 pub mod Conditions
 pub mod Following
+-- The lowered words lay out the table.
 pub mod Sources
 pub mod Legs
+pub mod Begin
+pub mod Finish
 pub mod Places
 pub mod Loading
+-- Orders on the lowered words.
 pub mod Order
 pub mod Endings
 pub mod Faults
 pub mod Waiting
 pub mod Statements
+pub mod NotIdle

@@ -5,41 +5,38 @@
 --   loaded-is                 so the loaded state is the reading's beginning
 --
 -- Assumes nothing.
-use mathlib.Core.Path.{_≡_, refl, sym, ap, ap₂, _∙_, subst}
-use mathlib.Core.Logic.{_≢_, _⊎_, inl, inr}
+use mathlib.Core.Path.{_≡_, refl, sym, ap, ap₂, _∙_}
 use mathlib.Core.Bool.{Bool, true, false, cond}
 use mathlib.Core.Option.{Option, none, some}
-use mathlib.Core.List.{List, [], _∷_, _++_}
+use mathlib.Core.List.{List, [], _∷_}
 use Prim.Native.Nat.{ℕ, zero, suc, _+_, _*_, _/_, _%_, _≤_, _<_}
 use native.Mathlib.Omega.{arith}
 use native.Mathlib.Decide.{ℕ-discrete, decLt}
-use borrow.Author.Tests.{eq-eqb, ne-eqb, eqb-true, lt-ltb, le-ltb, leb-true}
-use lib.Dec.{eqb, leb, ltb}
+use borrow.Author.Tests.{eq-eqb, ne-eqb, lt-ltb, le-ltb, leb-true}
+use lib.Dec.{eqb, ltb}
 use lib.ListN.{length, getD, getElem?, length-append}
 use Rattle.word.specs.Words
-use Rattle.step.specs.Machines.{rest}
-use Rattle.graph.specs.Graph.{nodeCount, wireCount, startCount, startKindAt, startWordAt}
-use Rattle.state.specs.State.{recordAt}
+use Rattle.graph.specs.Graph.{nodeCount, wireCount, startCount}
+use Rattle.graph.specs.Refusal.{graphRefusal}
 use Rattle.state.specs.Net.{netOf}
 use Rattle.state.specs.Legal.{stateLength}
 use Rattle.state.specs.Load.{startWord, loaded}
 use Rattle.state.specs.Loaded.{loadedAt, loaded-length, loaded-at}
 use Rattle.table.specs.Rows.{kindOf, word, size, INPUT, CONST}
 use Rattle.structure.specs.Structure.{Structure}
-use Rattle.reading.specs.Reading.{Env, inputsBelow, firstWords}
+use Rattle.reading.specs.Reading.{inputsBelow, firstWords}
 use Rattle.lowered.specs.Gathered.{those, each, position}
-use Rattle.lowered.specs.Roles.{Wire, start, output}
+use Rattle.lowered.specs.Roles.{start}
 use Rattle.lowered.specs.Lower.{isStart, startRows, starts, wires, wireNumber, roles, roleOutputs, startWords, plainWires, wireTotal, startTotal, loweredWords}
 use Rattle.laid.specs.Lists.{has-elem, there, in-range, elem-left, at-position, those-from, those-has, none-some}
 use Rattle.laid.specs.Words.{wire-count, start-count, start-kind-at, start-word-at}
 use Rattle.uses.specs.Layout.{Made}
 use Rattle.uses.specs.Flat.{Holds, flag, word as wordOf}
-use Rattle.faithful.specs.Table.{Table, isIn, plan}
-use Rattle.faithful.specs.Tables
+use Rattle.faithful.specs.Table.{Table, plan}
 use Rattle.faithful.specs.Sources.{to-made, from-made}
 use Rattle.faithful.specs.Places.{layout, laid, number-is}
 use Rattle.faithful.specs.Finish.{Loaded}
-use Rattle.graph.specs.Refusal.{graphRefusal}
+use Rattle.faithful.specs.Tables
 
 -- ---- starts in order
 

@@ -1,30 +1,28 @@
--- One loop L: the roles that belong to it, the values that its nodes give, the ports that they take from, and three stages of them.
+-- One loop: the roles that belong to it, the values that they give, and the uses that they take.
+--
+--   inLoop, only              the loop's roles; effects of them alone
+--   loop-stage                those of them that are ready fire together
+--   Fill, fill                which of the loop's nodes gives on the wire of a value in a body: the index, an ARG, a copy, an exit word, none
+--   Taking, taking            which of them takes a use: at FOR, at END, none
+--
 -- Assumes nothing.
-use mathlib.Core.Path.{_≡_, refl, sym, ap, ap₂, _∙_, subst, subst₂}
-use mathlib.Core.Logic.{_≢_, _⊎_, inl, inr}
-use mathlib.Core.Bool.{Bool, true, false}
+use mathlib.Core.Path.{_≡_, refl, sym, ap, ap₂, _∙_, subst}
+use mathlib.Core.Logic.{_≢_, inl, inr}
+use mathlib.Core.Bool.{Bool, true, false, _&&_}
 use mathlib.Core.Option.{Option, none, some}
 use mathlib.Core.List.{List, [], _∷_, _++_}
-use Prim.Native.Nat.{ℕ, zero, suc, _+_, _*_, _≤_, _<_}
+use Prim.Native.Nat.{ℕ, zero, suc, _+_, _≤_, _<_}
 use native.Mathlib.Omega.{arith}
-use native.Mathlib.Decide.{ℕ-discrete, decLe}
+use native.Mathlib.Decide.{ℕ-discrete}
 use lib.Dec.{T, eqb, eqb→eq, eqb-refl}
-use mir.Facts.{yes-eqb}
-use mathlib.Core.Bool.{_&&_}
-use Prim.Native.Nat.{_-_}
-use Rattle.word.specs.Words.{condition, update, operate}
-use Rattle.step.specs.Kinds.{Input, in0, in1, in2, Output, out0, out1, STREAM, GATE, CARRY, INVARIANT, SPLIT, OP, PICK}
-use Rattle.step.specs.Firing.{View, Effect, Program, stop, give, ask, perform, gives, takes, waits, room, fillable}
-use Rattle.step.specs.Machines.{program, rest, inPhase, holding, whether}
-use Rattle.step.specs.Locality.{every-program-is-local, asking-inv, giving-inv, taking-gives}
-use Rattle.step.specs.declared.Record.{Record}
+use Rattle.step.specs.Kinds.{Input, in1, in2, Output, out0, out1}
+use Rattle.step.specs.Firing.{Effect}
 use Rattle.table.specs.Bodies.{Row, input, const, op, pick, for, arg, next, end, out, unknown}
-use Rattle.lowered.specs.Roles.{Role, sameRole, opNode, stream, gate, guard, copySplit, copyInvariant, carry, argSplit, Wire, start, output, Use, into, result}
-use Rattle.uses.specs.Machine.{Plan, State, giveBy, takeBy, nextBy, put, drop, listed, given, taken, viewOf, Among, Once, after, one, one-same, one-other, Ready, Steps, steps-append, stage-cover, those}
-use Rattle.faithful.specs.Table.{Table, Slot, val, inner, absent, named, IsFor, wireOf, born, since, slot, slotWire, src, isOp, isStart, isArg, Real, progOf, plan}
-use Rattle.faithful.specs.Good.{Inner, Used, Good, Source, wStart, wOp, wFor, wArg, wNxt, wInv, source, ForPort, fStream, fGuard, fSplit, fCarry, When, byOp, byFor, byEnd, byOut, when, Inward, nGate0, nGate1, nSplit, nInv0, nInv1, nCarry, nArg0, nArg1, inward}
-use Rattle.faithful.specs.Gamma.{Env, streamHeld, Live, Inside, Shows, scope, held, Gamma, shows-same, shows-none, shows-some, Rel, before, behind, inside, around, for-not-end, rel, head-row, since-head, since-in, since-own, held-same}
-use Rattle.faithful.specs.StepOp.{setTo, set-same, set-other, sight, runs-by, put-drop-none, body-quiet, real-body, recs-same, since-row, src-cases, token-at, Path, choose}
+use Rattle.lowered.specs.Roles.{Role, opNode, stream, gate, guard, copySplit, copyInvariant, carry, argSplit, Wire, output, Use, into}
+use Rattle.uses.specs.Machine.{State, giveBy, takeBy, given, taken, Among, after, Ready, Steps, stage-cover, those}
+use Rattle.faithful.specs.Table.{Table, val, IsFor, wireOf, since, slot, isOp, isArg, plan}
+use Rattle.faithful.specs.Good.{Inner, Good, Source, fromStart, fromOp, fromFor, fromArg, fromNext, fromCopy, source, ForUse, intoStream, intoGuard, intoSplit, intoCarry, When, byOp, byFor, byEnd, byOut, when}
+use Rattle.faithful.specs.Gamma.{for-not-end}
 
 abbrev pub keepIf : Bool → Option Effect → Option Effect
 keepIf true x = x
@@ -208,13 +206,13 @@ module _ (tb : Table) (g : Good tb) (L : ℕ) (f : IsFor tb L) where
 
   -- ---- what the loop gives on the wire of v in B
   pub data Fill (v B : ℕ) : Type 0 where
-    fIdx : v ≡ L → B ≡ L → since tb v B ≡ 0 → ((eff : Role → Option Effect) → given (only tb L eff) (some (wireOf tb v B)) ≡ giveBy (eff (gate L)) out0) → Fill v B
-    fArg : (i : ℕ) → tb .row v ≡ arg i → tb .loop v ≡ L → B ≡ L → since tb v B ≡ 0
+    fillsIndex : v ≡ L → B ≡ L → since tb v B ≡ 0 → ((eff : Role → Option Effect) → given (only tb L eff) (some (wireOf tb v B)) ≡ giveBy (eff (gate L)) out0) → Fill v B
+    fillsArg : (i : ℕ) → tb .row v ≡ arg i → tb .loop v ≡ L → B ≡ L → since tb v B ≡ 0
         → ((eff : Role → Option Effect) → given (only tb L eff) (some (wireOf tb v B)) ≡ giveBy (eff (argSplit v)) out0) → Fill v B
-    fInv : tb .carried L v ≡ true → B ≡ L → since tb v B ≡ 0 → ((eff : Role → Option Effect) → given (only tb L eff) (some (wireOf tb v B)) ≡ giveBy (eff (copyInvariant L v)) out0) → Fill v B
-    fExit : (x : ℕ) → tb .row v ≡ next x → tb .loop v ≡ L → B ≡ tb .reads L → tb .home v ≡ B → since tb v B ≡ suc (tb .last L)
+    fillsCopy : tb .carried L v ≡ true → B ≡ L → since tb v B ≡ 0 → ((eff : Role → Option Effect) → given (only tb L eff) (some (wireOf tb v B)) ≡ giveBy (eff (copyInvariant L v)) out0) → Fill v B
+    fillsExit : (x : ℕ) → tb .row v ≡ next x → tb .loop v ≡ L → B ≡ tb .reads L → tb .home v ≡ B → since tb v B ≡ suc (tb .last L)
         → ((eff : Role → Option Effect) → given (only tb L eff) (some (wireOf tb v B)) ≡ giveBy (eff (argSplit (tb .argOf v))) out1) → Fill v B
-    fNone : (B ≡ L → since tb v B ≢ 0) → ((x : ℕ) → tb .row v ≡ next x → tb .loop v ≡ L → tb .home v ≡ B → ⊥)
+    fillsNone : (B ≡ L → since tb v B ≢ 0) → ((x : ℕ) → tb .row v ≡ next x → tb .loop v ≡ L → tb .home v ≡ B → ⊥)
         → ((eff : Role → Option Effect) → given (only tb L eff) (some (wireOf tb v B)) ≡ none) → Fill v B
 
   gives-yes : (v B : ℕ) (n : Role) (o : Output) → wireOf tb v B ≡ output n o → inLoop tb L n ≡ true → (eff : Role → Option Effect) → given (only tb L eff) (some (wireOf tb v B)) ≡ giveBy (eff n) o
@@ -227,40 +225,40 @@ module _ (tb : Table) (g : Good tb) (L : ℕ) (f : IsFor tb L) where
   fill v B away = go (source tb v B)
     where
       go : Source tb v B → Fill v B
-      go (wStart w h t z) =
-          fNone (λ e _. let k = g .start-home v t in let l = for-below in omega arith) (λ x q _ _. let z : _≡_ {A = ℕ} 0 1 = cc in omega arith)
+      go (fromStart w h t z) =
+          fillsNone (λ e _. let k = g .start-home v t in let l = for-below in omega arith) (λ x q _ _. let z : _≡_ {A = ℕ} 0 1 = cc in omega arith)
           (λ eff. ap (λ (z : Wire). given (only tb L eff) (some z)) w)
-      go (wOp w h t z) = fNone (λ e. omega arith) (λ x q _ _. let z : _≡_ {A = ℕ} 0 1 = cc in omega arith) (gives-no v B (opNode v) out0 w refl)
-      go (wFor w h t z) =
+      go (fromOp w h t z) = fillsNone (λ e. omega arith) (λ x q _ _. let z : _≡_ {A = ℕ} 0 1 = cc in omega arith) (gives-no v B (opNode v) out0 w refl)
+      go (fromFor w h t z) =
           elim (ℕ-discrete v L) [
-            | yes e ↦ fIdx e (sym h ∙ ap (tb .home) e ∙ g .for-home L f) z (λ eff. gives-yes v B (gate v) out0 w (ap (λ (y : ℕ). eqb y L) e ∙ eqb-yes L) eff ∙ ap (λ (y : ℕ). giveBy (eff (gate y)) out0) e)
-            | no e ↦ fNone (λ d _. e (sym (g .for-home v t) ∙ h ∙ d)) (λ x q _ _. let k = t .5 in let z : _≡_ {A = ℕ} 0 1 = cc in omega arith) (gives-no v B (gate v) out0 w (eqb-no v L e))
+            | yes e ↦ fillsIndex e (sym h ∙ ap (tb .home) e ∙ g .for-home L f) z (λ eff. gives-yes v B (gate v) out0 w (ap (λ (y : ℕ). eqb y L) e ∙ eqb-yes L) eff ∙ ap (λ (y : ℕ). giveBy (eff (gate y)) out0) e)
+            | no e ↦ fillsNone (λ d _. e (sym (g .for-home v t) ∙ h ∙ d)) (λ x q _ _. let k = t .5 in let z : _≡_ {A = ℕ} 0 1 = cc in omega arith) (gives-no v B (gate v) out0 w (eqb-no v L e))
           ]
-      go (wArg i w h q z) =
+      go (fromArg i w h q z) =
           elim (ℕ-discrete (tb .loop v) L) [
-            | yes e ↦ fArg i q e (sym h ∙ g .arg-home v i q ∙ e) z (gives-yes v B (argSplit v) out0 w (arg-in tb L v e (ap isArg q)))
-            | no e ↦ fNone (λ d _. e (sym (g .arg-home v i q) ∙ h ∙ d)) (λ x k _ _. let z : _≡_ {A = ℕ} 0 1 = cc in omega arith) (gives-no v B (argSplit v) out0 w (two-out tb L (tb .loop v) (isArg (tb .row v)) e))
+            | yes e ↦ fillsArg i q e (sym h ∙ g .arg-home v i q ∙ e) z (gives-yes v B (argSplit v) out0 w (arg-in tb L v e (ap isArg q)))
+            | no e ↦ fillsNone (λ d _. e (sym (g .arg-home v i q) ∙ h ∙ d)) (λ x k _ _. let z : _≡_ {A = ℕ} 0 1 = cc in omega arith) (gives-no v B (argSplit v) out0 w (two-out tb L (tb .loop v) (isArg (tb .row v)) e))
           ]
-      go (wNxt x w h q z) =
+      go (fromNext x w h q z) =
           elim (ℕ-discrete (tb .loop v) L) [
-            | yes e ↦ fExit x q e (sym h ∙ g .nxt-home v x q ∙ ap (tb .reads) e) h (z ∙ ap (λ (y : ℕ). suc (tb .last y)) e)
-                (gives-yes v B (argSplit (tb .argOf v)) out1 w (arg-in tb L (tb .argOf v) (g .nxt-arg-loop v x q ∙ e) (ap isArg (g .nxt-arg v x q .1))))
-            | no e ↦ fNone (λ d. omega arith) (λ y k l _. e l)
-                (gives-no v B (argSplit (tb .argOf v)) out1 w (two-out tb L (tb .loop (tb .argOf v)) (isArg (tb .row (tb .argOf v))) (λ l. e (sym (g .nxt-arg-loop v x q) ∙ l))))
+            | yes e ↦ fillsExit x q e (sym h ∙ g .next-home v x q ∙ ap (tb .reads) e) h (z ∙ ap (λ (y : ℕ). suc (tb .last y)) e)
+                (gives-yes v B (argSplit (tb .argOf v)) out1 w (arg-in tb L (tb .argOf v) (g .next-arg-loop v x q ∙ e) (ap isArg (g .next-arg v x q .1))))
+            | no e ↦ fillsNone (λ d. omega arith) (λ y k l _. e l)
+                (gives-no v B (argSplit (tb .argOf v)) out1 w (two-out tb L (tb .loop (tb .argOf v)) (isArg (tb .row (tb .argOf v))) (λ l. e (sym (g .next-arg-loop v x q) ∙ l))))
           ]
-      go (wInv w h z) =
+      go (fromCopy w h z) =
           elim (ℕ-discrete B L) [
             | yes e ↦
                 let c : tb .carried L v ≡ true = subst (λ (y : ℕ). tb .carried y v ≡ true) e (away h) in
-                fInv c e z (λ eff. gives-yes v B (copyInvariant B v) out0 w (ap₂ (λ (a b : ℕ). eqb a L && tb .carried b v) e e ∙ two-in tb L v c) eff ∙ ap (λ (y : ℕ). giveBy (eff (copyInvariant y v)) out0) e)
-            | no e ↦ fNone (λ d _. e d) (λ x q l d. h d) (gives-no v B (copyInvariant B v) out0 w (two-out tb L B (tb .carried B v) e))
+                fillsCopy c e z (λ eff. gives-yes v B (copyInvariant B v) out0 w (ap₂ (λ (a b : ℕ). eqb a L && tb .carried b v) e e ∙ two-in tb L v c) eff ∙ ap (λ (y : ℕ). giveBy (eff (copyInvariant y v)) out0) e)
+            | no e ↦ fillsNone (λ d _. e d) (λ x q l d. h d) (gives-no v B (copyInvariant B v) out0 w (two-out tb L B (tb .carried B v) e))
           ]
 
-  -- ---- what the loop takes from a port
+  -- ---- what the loop takes from a use
   pub data Taking (p : Use) (B c : ℕ) : Type 0 where
-    tFor : ForPort tb p L → c ≡ L → B ≡ tb .reads L → Taking p B c
-    tEnd : (a i : ℕ) → p ≡ into (carry a) in2 → tb .row a ≡ arg i → tb .loop a ≡ L → c ≡ tb .last L → B ≡ L → Taking p B c
-    tNone : c ≢ L → c ≢ tb .last L → ((eff : Role → Option Effect) → taken (only tb L eff) p ≡ false) → Taking p B c
+    takenByFor : ForUse tb p L → c ≡ L → B ≡ tb .reads L → Taking p B c
+    takenByEnd : (a i : ℕ) → p ≡ into (carry a) in2 → tb .row a ≡ arg i → tb .loop a ≡ L → c ≡ tb .last L → B ≡ L → Taking p B c
+    takenByNone : c ≢ L → c ≢ tb .last L → ((eff : Role → Option Effect) → taken (only tb L eff) p ≡ false) → Taking p B c
 
   pub takes-yes : (p : Use) (n : Role) (k : Input) → p ≡ into n k → inLoop tb L n ≡ true → (eff : Role → Option Effect) → taken (only tb L eff) p ≡ takeBy (eff n) k
   takes-yes p n k e h eff = ap (taken (only tb L eff)) e ∙ ap (λ (z : Option Effect). takeBy z k) (only-yes tb L eff n h)
@@ -274,23 +272,23 @@ module _ (tb : Table) (g : Good tb) (L : ℕ) (f : IsFor tb L) where
       last-not : IsFor tb c → c ≢ tb .last L
       last-not h = for-not-end tb g c (tb .last L) h (g .for-end L f)
 
-      other : IsFor tb c → c ≢ L → ForPort tb p c → Taking p B c
-      other h n (fStream k e) = tNone n (last-not h) (takes-no p (stream c) k e (eqb-no c L n))
-      other h n (fGuard k e) = tNone n (last-not h) (takes-no p (guard c) k e (eqb-no c L n))
-      other h n (fSplit x e d) = tNone n (last-not h) (takes-no p (copySplit c x) in1 e (two-out tb L c (tb .carried c x) n))
-      other h n (fCarry a i e d l) = tNone n (last-not h) (takes-no p (carry a) in1 e (two-out tb L (tb .loop a) (isArg (tb .row a)) (λ y. n (sym l ∙ y))))
+      other : IsFor tb c → c ≢ L → ForUse tb p c → Taking p B c
+      other h n (intoStream k e) = takenByNone n (last-not h) (takes-no p (stream c) k e (eqb-no c L n))
+      other h n (intoGuard k e) = takenByNone n (last-not h) (takes-no p (guard c) k e (eqb-no c L n))
+      other h n (intoSplit x e d) = takenByNone n (last-not h) (takes-no p (copySplit c x) in1 e (two-out tb L c (tb .carried c x) n))
+      other h n (intoCarry a i e d l) = takenByNone n (last-not h) (takes-no p (carry a) in1 e (two-out tb L (tb .loop a) (isArg (tb .row a)) (λ y. n (sym l ∙ y))))
 
       go : When tb p v B c → Taking p B c
       go (byOp k e h) =
-          tNone (λ y. let r = f .5 in let h′ : isOp tb (tb .row L) ≡ true = subst (λ (z : ℕ). isOp tb (tb .row z) ≡ true) y h in let z : _≡_ {A = ℕ} 0 1 = cc in omega arith)
+          takenByNone (λ y. let r = f .5 in let h′ : isOp tb (tb .row L) ≡ true = subst (λ (z : ℕ). isOp tb (tb .row z) ≡ true) y h in let z : _≡_ {A = ℕ} 0 1 = cc in omega arith)
           (λ y. let r = g .for-end L f in let h′ : isOp tb (tb .row (tb .last L)) ≡ true = subst (λ (z : ℕ). isOp tb (tb .row z) ≡ true) y h in let z : _≡_ {A = ℕ} 0 1 = cc in omega arith)
           (takes-no p (opNode c) k e refl)
-      go (byFor h w b) = elim (ℕ-discrete c L) [ yes y ↦ tFor (subst (ForPort tb p) y w) y (b ∙ ap (tb .reads) y) | no y ↦ other h y w ]
+      go (byFor h w b) = elim (ℕ-discrete c L) [ yes y ↦ takenByFor (subst (ForUse tb p) y w) y (b ∙ ap (tb .reads) y) | no y ↦ other h y w ]
       go (byEnd a i e h l b _) =
           elim (ℕ-discrete (tb .loop a) L) [
-            | yes y ↦ tEnd a i e h y (l ∙ ap (tb .last) y) (b ∙ y)
-            | no y ↦ tNone (λ d. for-not-end tb g L (tb .last (tb .loop a)) f (g .for-end (tb .loop a) (g .arg-for a i h)) (sym d ∙ l))
+            | yes y ↦ takenByEnd a i e h y (l ∙ ap (tb .last) y) (b ∙ y)
+            | no y ↦ takenByNone (λ d. for-not-end tb g L (tb .last (tb .loop a)) f (g .for-end (tb .loop a) (g .arg-for a i h)) (sym d ∙ l))
                 (λ d. y (sym (g .end-loop (tb .loop a) (g .arg-for a i h)) ∙ ap (tb .loop) (sym l ∙ d) ∙ g .end-loop L f))
                 (takes-no p (carry a) in2 e (two-out tb L (tb .loop a) (isArg (tb .row a)) y))
           ]
-      go (byOut x e l b) = tNone (let a = for-below in omega arith) (let a = g .for-size L f in omega arith) (λ eff. ap (taken (only tb L eff)) e)
+      go (byOut x e l b) = takenByNone (let a = for-below in omega arith) (let a = g .for-size L f in omega arith) (λ eff. ap (taken (only tb L eff)) e)

@@ -6,13 +6,11 @@
 --   order-shows               every path of the use machine from its first state is shown by one
 --
 -- Assumes nothing.
-use mathlib.Core.Path.{_≡_, refl, sym, ap, ap₂, _∙_, subst}
-use mathlib.Core.Logic.{_⊎_, inl, inr}
-use mathlib.Core.Option.{Option, none, some}
-use mathlib.Core.List.{List, [], _∷_, _++_}
-use Prim.Native.Nat.{ℕ, zero, suc, _+_, _≤_, _<_}
+use mathlib.Core.Path.{_≡_, refl, ap₂, _∙_}
+use mathlib.Core.List.{List, _++_}
+use Prim.Native.Nat.{ℕ}
 use native.Mathlib.Omega.{arith}
-use Rattle.step.specs.Kinds.{Output, out1}
+use Rattle.step.specs.Kinds.{Output}
 use Rattle.step.specs.Machines.{rest}
 use Rattle.graph.specs.Graph.{nodeCount}
 use Rattle.graph.specs.Refusal.{graphRefusal}
@@ -20,18 +18,16 @@ use Rattle.state.specs.Net.{netOf}
 use Rattle.state.specs.Load.{loaded}
 use Rattle.confluence.specs.Statements.{Fires, putOnWire}
 use Rattle.table.specs.Rows.{size}
-use Rattle.table.specs.Bodies.{arg}
 use Rattle.structure.specs.Structure.{Structure}
-use Rattle.reading.specs.Reading
 use Rattle.reading.specs.Reading.{begin, firstWords}
-use Rattle.lowered.specs.Roles.{Role, stream, gate, output}
+use Rattle.lowered.specs.Roles.{Role, output}
 use Rattle.lowered.specs.Lower.{wireNumber, loweredWords}
 use Rattle.uses.specs.Machine.{State, Steps}
-use Rattle.uses.specs.Wires.{Tokens, Steps2, steps2-append, puts2, puts2-append}
+use Rattle.uses.specs.Wires.{Tokens, steps2-append, puts2-append}
 use Rattle.uses.specs.Layout.{Made, Shown, run-shown}
 use Rattle.uses.specs.Flat.{Rep, flat-run}
-use Rattle.faithful.specs.Table.{Table, IsFor, plan}
-use Rattle.faithful.specs.Gamma.{Env, Inside}
+use Rattle.faithful.specs.Table.{Table, plan}
+use Rattle.faithful.specs.Gamma.{Env}
 use Rattle.faithful.specs.Tables.{tableOf}
 use Rattle.faithful.specs.Sound.{passing-is-good}
 use Rattle.faithful.specs.Conditions.{turnsOf}

@@ -8,7 +8,7 @@
 --
 -- Assumes nothing.
 use mathlib.Core.Path.{_≡_, refl, sym, ap, ap₂, _∙_, subst}
-use mathlib.Core.Logic.{_≢_, _⊎_, inl, inr}
+use mathlib.Core.Logic.{_⊎_, inl, inr}
 use mathlib.Core.Bool.{Bool, true, false, cond}
 use mathlib.Core.Option.{Option, none, some}
 use mathlib.Core.List.{List, [], _∷_, _++_}
@@ -16,43 +16,39 @@ use Prim.Native.Nat.{ℕ, zero, suc, _+_, _*_, _≤_, _<_}
 use native.Mathlib.Omega.{arith}
 use native.Mathlib.Decide.{ℕ-discrete, decLt}
 use borrow.Author.Tests.{eq-eqb, ne-eqb, lt-ltb}
-use lib.Dec.{eqb}
 use lib.ListN.{length, getElem?, length-append}
-use Rattle.step.specs.Kinds
 use Rattle.step.specs.Kinds.{Kind, Input, in0, in1, in2, Output, out0, out1, outputs}
 use Rattle.step.specs.Firing.{View, Effect, perform}
 use Rattle.step.specs.Machines.{step, program}
-use Rattle.graph.specs.Graph.{Node, nodeAt, nodeCount, wireCount, inputOf, outputOf, outputPlace, hasInput, hasOutput, wireOn}
+use Rattle.step.specs.Kinds
+use Rattle.graph.specs.Graph.{Node, nodeAt, nodeCount, wireCount, inputOf, outputOf, outputPlace, hasInput, wireOn}
 use Rattle.graph.specs.Refusal.{graphRefusal}
 use Rattle.graph.specs.Accepted.{node-in-range}
 use Rattle.state.specs.Net.{stepAt, netOf}
 use Rattle.confluence.specs.Graphs.{accepted-is-wired}
-use Rattle.table.specs.Rows.{kindOf, word, size}
+use Rattle.table.specs.Rows.{kindOf, word}
 use Rattle.table.specs.Bodies.{Row, input, const, op, pick, for, arg, next, end, out, unknown}
 use Rattle.structure.specs.Structure.{Structure}
-use Rattle.lowered.specs.Gathered.{each}
-use Rattle.lowered.specs.Roles.{Role, sameRole, opNode, stream, gate, guard, copySplit, copyInvariant, carry, argSplit, Wire, sameWire, start, output, Use, sameUse, into, result}
+use Rattle.lowered.specs.Gathered.{each, position}
+use Rattle.lowered.specs.Roles.{Role, sameRole, opNode, stream, gate, guard, copySplit, copyInvariant, carry, argSplit, Wire, sameWire, output, Use, into}
 use Rattle.lowered.specs.Sources.{source}
-use Rattle.lowered.specs.Gathered.{position}
-use Rattle.lowered.specs.Lower.{roles, roleKind, roleCode, roleSort, roleOutputs, outputsBy, starts, wires, wireNumber, wireSort, uses, users, forkRows, forkWires, forkNodes, legOf, freeAt, allForkWires, allForkNodes, usersEach, plainNodes, plainWires, allUsers, standsBy, standsOn, roleNode, nodesFrom, forksFrom, loweredNodes, nodeTotal, wireTotal, loweredWords}
-use Rattle.laid.specs.Lists
+use Rattle.lowered.specs.Lower.{roles, roleKind, roleCode, roleOutputs, outputsBy, starts, wires, wireNumber, wireSort, users, forkRows, forkWires, forkNodes, legOf, freeAt, allForkWires, allForkNodes, usersEach, plainNodes, plainWires, allUsers, standsBy, standsOn, roleNode, nodesFrom, forksFrom, loweredNodes, nodeTotal, wireTotal, loweredWords}
 use Rattle.laid.specs.Lists.{in-range, has-elem, there, elem-left, elem-right, at-position, position-is}
-use Rattle.laid.specs.Listed
 use Rattle.laid.specs.Listed.{roles-once, listed-role-is-real, real-role-is-listed, listed-wire-is-made, made-wire-is-listed, wires-once}
 use Rattle.laid.specs.Uses.{users-are, users-has, users-once}
 use Rattle.laid.specs.Made.{source-is-made}
 use Rattle.laid.specs.Taken.{present, missing}
-use Rattle.laid.specs.Words.{nodes-are-counted, node-count, wire-count, node-at}
+use Rattle.laid.specs.Words.{node-count, wire-count, node-at}
+use Rattle.laid.specs.Listed
 use Rattle.uses.specs.Machine.{Among}
-use Rattle.uses.specs.Wires.{Has, Once, Spread, below, nodes}
-use Rattle.uses.specs.Layout
-use Rattle.uses.specs.Layout.{Layout, Made, portOf, Tree}
-use Rattle.faithful.specs.Table.{Table, HasOut, src, progOf, plan}
-use Rattle.faithful.specs.Table
-use Rattle.faithful.specs.Tables
+use Rattle.uses.specs.Wires.{Has, Spread, below, nodes}
+use Rattle.uses.specs.Layout.{Layout, Made, wireIf, Tree}
+use Rattle.faithful.specs.Table.{Table, programOf, plan}
 use Rattle.faithful.specs.Sources.{source-is, to-real, from-real, use-is-listed, to-made, from-made, has-out}
 use Rattle.faithful.specs.Legs.{upFrom, upFrom-range, Placed, tails, fork-rows-long, tails-range, tails-once, spread-built, forkAt, free-low, free-high, free-apart, free-all, fork-all, fork-shift, placed-among, place-there, placed-is, placed-tree, placed-inj}
 use Rattle.faithful.specs.Finish.{Laid}
+use Rattle.faithful.specs.Table
+use Rattle.faithful.specs.Tables
 
 -- two elements at one place are the same
 pub same-place : {A : Type 0} (same : (a b : A) → Dec (a ≡ b)) (a b : A) (xs : List A) → Among a xs → Among b xs → position same a xs ≡ position same b xs → a ≡ b
@@ -275,7 +271,7 @@ module _ (t : List ℕ) (S : Structure t) where
       (λ p y h. stands p w (users-are t w p (placed-among p y (wireNumber t w) (users t w) (free w) h) .0) ∙ placed-is p y (wireNumber t w) (users t w) (free w) (users-once t w) h)
 
   -- ---- what a role's node says
-  pub input-says : (n : Role) (f : ℕ) (k : Input) → Listed.Real t n → inputOf (some (roleNode t f n)) k ≡ portOf (source t (into n k)) (standsOn t (into n k))
+  pub input-says : (n : Role) (f : ℕ) (k : Input) → Listed.Real t n → inputOf (some (roleNode t f n)) k ≡ wireIf (source t (into n k)) (standsOn t (into n k))
   input-says n f k rl = go (hasInput (roleKind t n) k) refl
     where
       wire : (k : Input) → wireOn (roleNode t f n) k ≡ standsOn t (into n k)
@@ -283,7 +279,7 @@ module _ (t : List ℕ) (S : Structure t) where
       wire in1 = refl
       wire in2 = refl
 
-      go : (b : Bool) → hasInput (roleKind t n) k ≡ b → inputOf (some (roleNode t f n)) k ≡ portOf (source t (into n k)) (standsOn t (into n k))
+      go : (b : Bool) → hasInput (roleKind t n) k ≡ b → inputOf (some (roleNode t f n)) k ≡ wireIf (source t (into n k)) (standsOn t (into n k))
       go true e = let p = present t S n k rl e in rw (e, p .1) (ap some (wire k))
       go false e = let p = missing t S n k rl e in rw (e, p)
 
@@ -302,7 +298,7 @@ module _ (t : List ℕ) (S : Structure t) where
       omega arith
 
   -- ---- what a role's node does
-  op-does : (d : Row) (r : ℕ) → tb .row r ≡ d → Table.isOp tb d ≡ true → (v : View) → step (roleKind t (opNode r)) (roleCode t (opNode r)) v ≡ perform (Table.opProg d (v .own)) v
+  op-does : (d : Row) (r : ℕ) → tb .row r ≡ d → Table.isOp tb d ≡ true → (v : View) → step (roleKind t (opNode r)) (roleCode t (opNode r)) v ≡ perform (Table.opProgram d (v .own)) v
   unfolding step
   op-does (op c x y) r q h v =
       let w = Tables.op-words t S r c x y q in
@@ -319,16 +315,16 @@ module _ (t : List ℕ) (S : Structure t) where
   op-does (out x) r q h v = let z : _≡_ {A = ℕ} 0 1 = cc in absurd (omega arith)
   op-does unknown r q h v = let z : _≡_ {A = ℕ} 0 1 = cc in absurd (omega arith)
 
-  pub role-does : (n : Role) → Table.Real tb n → (v : View) → step (roleKind t n) (roleCode t n) v ≡ perform (progOf tb n (v .own)) v
+  pub role-does : (n : Role) → Table.Real tb n → (v : View) → step (roleKind t n) (roleCode t n) v ≡ perform (programOf tb n (v .own)) v
   unfolding step
   role-does (opNode r) rl v = op-does (tb .row r) r refl (rl .1) v
   role-does (stream L) rl v =
       let w = Tables.for-words t S L (rl .0) (rl .1) (rl .2) (rl .3) (rl .4) (rl .5) in
-      ap₂ (λ (a b : ℕ). perform (program Kinds.STREAM (5 * a + b) (v .own)) v) (w .5) (w .6) ∙ ap (λ (z : Row). perform (Table.streamProg z (v .own)) v) (sym (rl .5))
+      ap₂ (λ (a b : ℕ). perform (program Kinds.STREAM (5 * a + b) (v .own)) v) (w .5) (w .6) ∙ ap (λ (z : Row). perform (Table.streamProgram z (v .own)) v) (sym (rl .5))
   role-does (gate L) rl v = refl
   role-does (guard L) rl v =
       let w = Tables.for-words t S L (rl .0) (rl .1) (rl .2) (rl .3) (rl .4) (rl .5) in
-      ap (λ (b : ℕ). perform (program Kinds.OP b (v .own)) v) (let e : 3 + word t L 5 ≡ suc (suc (suc (rl .4))) = (let d = w .6 in omega arith) in e) ∙ ap (λ (z : Row). perform (Table.guardProg z (v .own)) v) (sym (rl .5))
+      ap (λ (b : ℕ). perform (program Kinds.OP b (v .own)) v) (let e : 3 + word t L 5 ≡ suc (suc (suc (rl .4))) = (let d = w .6 in omega arith) in e) ∙ ap (λ (z : Row). perform (Table.guardProgram z (v .own)) v) (sym (rl .5))
   role-does (copySplit L x) rl v = refl
   role-does (copyInvariant L x) rl v = refl
   role-does (carry a) rl v = refl
@@ -366,7 +362,7 @@ module _ (t : List ℕ) (S : Structure t) where
             (subst (λ (z : ℕ). Placed r z (wireNumber t w) (users t w) (free w)) (sym e) (placed r w (k′ ∙ ap some (sym d))));
         num-inj = λ n m rn rm e. same-place sameRole n m (roles t) (role-listed n rn) (role-listed m rm) e;
         aside = aside;
-        ins = λ n rl k. ap (λ (o : Option Node). inputOf o k) (role-node n rl) ∙ input-says n (firstOf n) k (to-real t S n rl) ∙ ap (λ (z : Option Wire). portOf z (standsOn t (into n k))) (sym (source-is t S (into n k)));
+        ins = λ n rl k. ap (λ (o : Option Node). inputOf o k) (role-node n rl) ∙ input-says n (firstOf n) k (to-real t S n rl) ∙ ap (λ (z : Option Wire). wireIf z (standsOn t (into n k))) (sym (source-is t S (into n k)));
         outs = λ n rl o h. ap (λ (z : Option Node). outputOf z o) (role-node n rl) ∙ output-says n (firstOf n) o (has-out t S n o h) ∙ ap some (output-wire n rl o (has-out t S n o h));
         does = λ n rl v. ap (λ (o : Option Node). stepAt o v) (role-node n rl) ∙ role-does n rl v;
       }

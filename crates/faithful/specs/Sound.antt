@@ -9,7 +9,7 @@ use mathlib.Core.Path.{_≡_, refl, sym, ap, _∙_, subst}
 use mathlib.Core.Logic.{_≢_, _⊎_, inl, inr}
 use mathlib.Core.Bool.{Bool, true, false}
 use mathlib.Core.List.{List}
-use Prim.Native.Nat.{ℕ, zero, suc, _+_, _*_, _≤_, _<_}
+use Prim.Native.Nat.{ℕ, suc, _≤_, _<_}
 use native.Mathlib.Omega.{arith}
 use native.Mathlib.Decide.{decLt, decLe, ℕ-discrete}
 use Rattle.step.specs.Kinds.{Input, in0, in1, in2}
@@ -20,12 +20,12 @@ use Rattle.structure.specs.Spans.{Encloses, same, inside, outermost}
 use Rattle.structure.specs.Operands.{Operand}
 use Rattle.structure.specs.Serving.{ArgRow, NextRow}
 use Rattle.structure.specs.Structure.{Structure}
-use Rattle.lowered.specs.Roles.{Role, opNode, stream, gate, guard, copySplit, copyInvariant, carry, argSplit, Use, into, result}
-use Rattle.faithful.specs.Table.{Table, Slot, val, inner, absent, named, IsFor, bornBy, born, since, slot, opSlot, streamSlot, guardSlot, gateSlot, copySplitSlot, copyInvariantSlot, carrySlot, argSplitSlot, resultSlot, isOp, isStart, isIn, isArg, isForRow}
+use Rattle.lowered.specs.Roles.{opNode, stream, gate, guard, copySplit, copyInvariant, carry, argSplit, Use, into, result}
+use Rattle.faithful.specs.Table.{Table, val, named, IsFor, bornBy, born, slot, opSlot, streamSlot, guardSlot, gateSlot, copySplitSlot, copyInvariantSlot, carrySlot, argSplitSlot, resultSlot, isOp, isStart, isIn, isArg, isForRow}
 use Rattle.faithful.specs.Good.{Inner, Used, Good}
 use Rattle.faithful.specs.Turn.{since-born}
+use Rattle.faithful.specs.Carried.{body-cases, first-is, last-is, inner-at, means-inside, outside-of, CarriedBy, carried-by, by-carried, carried-before, carried-home, carried-passed, carried-around}
 use Rattle.faithful.specs.Tables
-use Rattle.faithful.specs.Carried.{body-cases, body-for, first-is, last-is, inner-at, inside-means, means-inside, outside-of, CarriedBy, carried-by, by-carried, carried-before, carried-home, carried-passed, carried-around}
 
 module _ (t : List ℕ) (S : Structure t) where
   abbrev tb : Table
@@ -469,13 +469,13 @@ module _ (t : List ℕ) (S : Structure t) where
         arg-next = next-form;
         arg-next-loop = λ a i h. ax a i h .next-body;
         arg-next-arg = λ a i h. ax a i h .next-arg;
-        nxt-for = λ x v h. Tables.for-row t S (bodyOf t x) (nx x v h .loop-for);
-        nxt-low = λ x v h. let e = first-is t S (bodyOf t x) (nx x v h .loop-for) in let l = nx x v h .low in omega arith;
-        nxt-high = λ x v h. let e = last-is t S (bodyOf t x) (nx x v h .loop-for) in let l = nx x v h .high in omega arith;
-        nxt-home = λ x v h. Tables.home-of t x (nw x v h .0) (let k = nw x v h .1 in omega arith) ∙ S .next-home x (nw x v h .0) (nw x v h .1) ∙ sym (S .reads-body (bodyOf t x) (λ z. let k = nx x v h .loop-for in omega arith));
-        nxt-arg = λ x v h. arg-form (argOf t x) (nx x v h .arg-kind);
-        nxt-arg-loop = λ x v h. nx x v h .arg-body;
-        nxt-arg-next = λ x v h. nx x v h .arg-next;
+        next-for = λ x v h. Tables.for-row t S (bodyOf t x) (nx x v h .loop-for);
+        next-low = λ x v h. let e = first-is t S (bodyOf t x) (nx x v h .loop-for) in let l = nx x v h .low in omega arith;
+        next-high = λ x v h. let e = last-is t S (bodyOf t x) (nx x v h .loop-for) in let l = nx x v h .high in omega arith;
+        next-home = λ x v h. Tables.home-of t x (nw x v h .0) (let k = nw x v h .1 in omega arith) ∙ S .next-home x (nw x v h .0) (nw x v h .1) ∙ sym (S .reads-body (bodyOf t x) (λ z. let k = nx x v h .loop-for in omega arith));
+        next-arg = λ x v h. arg-form (argOf t x) (nx x v h .arg-kind);
+        next-arg-loop = λ x v h. nx x v h .arg-body;
+        next-arg-next = λ x v h. nx x v h .arg-next;
         end-for = λ r h l. Tables.for-row t S (bodyOf t r) (S .end-of r l (end-kind r h .1) .0);
         end-last = λ r h l. let k = S .end-of r l (end-kind r h .1) in last-is t S (bodyOf t r) (k .0) ∙ k .2;
         op-size = λ r h. op-kind r h .0;

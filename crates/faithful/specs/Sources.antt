@@ -8,14 +8,14 @@
 --
 -- Assumes nothing.
 use mathlib.Core.Path.{_≡_, refl, sym, ap, ap₂, _∙_, subst}
-use mathlib.Core.Logic.{_≢_, _⊎_, inl, inr}
-use mathlib.Core.Bool.{Bool, true, false, cond, _&&_, _||_}
-use mathlib.Core.Option.{Option, none, some}
+use mathlib.Core.Logic.{inl, inr}
+use mathlib.Core.Bool.{Bool, true, false, cond, _||_}
+use mathlib.Core.Option.{none, some}
 use mathlib.Core.List.{List}
-use Prim.Native.Nat.{ℕ, zero, suc, _≤_, _<_}
+use Prim.Native.Nat.{ℕ, suc, _≤_, _<_}
 use native.Mathlib.Omega.{arith}
 use native.Mathlib.Decide.{decLt}
-use borrow.Author.Tests.{eq-eqb, ne-eqb, eqb-true, le-leb, lt-leb, leb-true}
+use borrow.Author.Tests.{eq-eqb, ne-eqb, eqb-true}
 use lib.Dec.{eqb, leb}
 use Rattle.step.specs.Kinds.{Input, in0, in1, in2, Output, out0, out1, outputs, OP, PICK}
 use Rattle.graph.specs.Graph.{outputPlace}
@@ -24,19 +24,19 @@ use Rattle.table.specs.Scan.{bodyOf, reads, home}
 use Rattle.table.specs.Bodies.{Row, input, const, op, pick, for, arg, next, end, out, unknown, operand, argOf, nextOf}
 use Rattle.structure.specs.Structure.{Structure}
 use Rattle.lowered.specs.Roles.{Role, opNode, stream, gate, guard, copySplit, copyInvariant, carry, argSplit, Wire, start, output, Use, into, result}
-use Rattle.lowered.specs.Sources
-use Rattle.lowered.specs.Sources.{homeWire, valueWire, roleFeed, source, isFor, isArgRow, carried}
+use Rattle.lowered.specs.Sources.{homeWire, valueWire, source, isFor, isArgRow, carried}
 use Rattle.lowered.specs.Lower.{roleKind}
+use Rattle.lowered.specs.Sources
 use Rattle.lowered.specs.Lower
+use Rattle.laid.specs.Made.{home-of-start, home-of-op, home-of-for, home-of-arg, home-of-next, node-feed, result-feed}
 use Rattle.laid.specs.Listed
 use Rattle.laid.specs.Uses
-use Rattle.laid.specs.Made.{home-of-start, home-of-op, home-of-for, home-of-arg, home-of-next, node-feed, result-feed}
-use Rattle.uses.specs.Layout
 use Rattle.uses.specs.Machine.{Among}
-use Rattle.faithful.specs.Table.{Table, Slot, val, inner, absent, IsFor, wireBy, slot, slotWire, src, opSlot, streamSlot, guardSlot, gateSlot, copySplitSlot, copyInvariantSlot, carrySlot, argSplitSlot, resultSlot, isForRow, isIn, isArg, HasOut, plan}
+use Rattle.uses.specs.Layout
+use Rattle.faithful.specs.Table.{Table, IsFor, wireBy, slotWire, src, opSlot, streamSlot, guardSlot, gateSlot, copySplitSlot, copyInvariantSlot, carrySlot, argSplitSlot, resultSlot, isForRow, isIn, isArg, HasOut, plan}
+use Rattle.faithful.specs.Carried.{carried-by, carried-before}
 use Rattle.faithful.specs.Table
 use Rattle.faithful.specs.Tables
-use Rattle.faithful.specs.Carried.{CarriedBy, carried-by, carried-before}
 
 module _ (t : List ℕ) (S : Structure t) where
   abbrev tb : Table

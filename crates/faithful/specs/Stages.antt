@@ -1,97 +1,96 @@
--- Three stages of one loop's nodes, from tables of effects by role.
+-- Three stages of one loop's nodes, one after the other, from tables of effects by role.
+--
+--   Effects                   an effect or none for each role
+--   Inlet, flow               the eight kinds of inner use of a loop, and what a stage does to one
+--   S1, S2, S3                the states after one, two and three stages
+--   at1, at2, at3, inner3     what stands on the inner uses
+--   val3, own3, hist3         and on the others, in the records, and the words put
+--   fired3                    the stages are firings, if each role is ready in its turn
+--
 -- Assumes nothing.
-use mathlib.Core.Path.{_≡_, refl, sym, ap, ap₂, _∙_, subst, subst₂}
-use mathlib.Core.Logic.{_≢_, _⊎_, inl, inr}
+use mathlib.Core.Path.{_≡_, refl, sym, ap, ap₂, _∙_, subst}
+use mathlib.Core.Logic.{_⊎_, inl, inr}
 use mathlib.Core.Bool.{Bool, true, false}
 use mathlib.Core.Option.{Option, none, some}
-use mathlib.Core.List.{List, [], _∷_, _++_}
-use Prim.Native.Nat.{ℕ, zero, suc, _+_, _*_, _≤_, _<_}
+use mathlib.Core.List.{List, [], _++_, append-assoc, append-nil}
+use Prim.Native.Nat.{ℕ}
 use native.Mathlib.Omega.{arith}
-use native.Mathlib.Decide.{ℕ-discrete, decLe}
-use lib.Dec.{T, eqb, eqb→eq, eqb-refl}
-use mir.Facts.{yes-eqb}
-use mathlib.Core.Bool.{_&&_}
-use mathlib.Core.List.{append-assoc, append-nil}
-use Rattle.word.specs.Words.{condition, update, operate}
-use Rattle.step.specs.Kinds.{Input, in0, in1, in2, Output, out0, out1, STREAM, GATE, CARRY, INVARIANT, SPLIT, OP, PICK}
-use Rattle.step.specs.Firing.{View, Effect, Program, stop, give, ask, perform, gives, takes, waits, room, fillable}
-use Rattle.step.specs.Machines.{program, rest, inPhase, holding, whether}
-use Rattle.step.specs.Locality.{every-program-is-local, asking-inv, giving-inv, taking-gives}
-use Rattle.step.specs.declared.Record.{Record}
-use Rattle.table.specs.Bodies.{Row, input, const, op, pick, for, arg, next, end, out, unknown}
-use Rattle.lowered.specs.Roles.{Role, sameRole, opNode, stream, gate, guard, copySplit, copyInvariant, carry, argSplit, Wire, start, output, Use, into, result}
-use Rattle.uses.specs.Machine.{Plan, State, giveBy, takeBy, nextBy, put, drop, listed, given, taken, viewOf, Among, Once, after, one, one-same, one-other, Ready, Steps, steps-append, stage-cover, those}
-use Rattle.faithful.specs.Table.{Table, Slot, val, inner, absent, named, IsFor, wireOf, born, since, slot, slotWire, src, isOp, isStart, isArg, Real, progOf, plan}
-use Rattle.faithful.specs.Good.{Inner, Used, Good, Source, wStart, wOp, wFor, wArg, wNxt, wInv, source, ForPort, fStream, fGuard, fSplit, fCarry, When, byOp, byFor, byEnd, byOut, when, Inward, nGate0, nGate1, nSplit, nInv0, nInv1, nCarry, nArg0, nArg1, inward}
-use Rattle.faithful.specs.Gamma.{Env, streamHeld, Live, Inside, Shows, scope, held, Gamma, shows-same, shows-none, shows-some, Rel, before, behind, inside, around, for-not-end, rel, head-row, since-head, since-in, since-own, held-same}
-use Rattle.faithful.specs.StepOp.{setTo, set-same, set-other, sight, runs-by, put-drop-none, body-quiet, real-body, recs-same, since-row, src-cases, token-at, Path, choose}
-use Rattle.faithful.specs.Loop.{inLoop, only, only-yes, only-no, only-some, arg-row, in-two, in-arg, two-in, arg-in, two-out, eqb-yes, eqb-no, is-eqb, loop-stage, for-below, reads-not, Fill, fIdx, fArg, fInv, fExit, fNone, fill, Taking, tFor, tEnd, tNone, takes-yes, takes-no, taking}
+use native.Mathlib.Decide.{ℕ-discrete}
+use Rattle.step.specs.Kinds.{Input, in0, in1, Output, out0, out1}
+use Rattle.step.specs.Firing.{Effect, perform, gives, room}
+use Rattle.table.specs.Bodies.{arg}
+use Rattle.lowered.specs.Roles.{Role, opNode, stream, gate, guard, copySplit, copyInvariant, carry, argSplit, Wire, output, Use, into}
+use Rattle.uses.specs.Machine.{State, giveBy, takeBy, nextBy, put, drop, listed, given, taken, viewOf, after, Ready, Steps, steps-append}
+use Rattle.faithful.specs.Table.{Table, Slot, val, inner, IsFor, wireOf, slot, slotWire, src, isArg, Real, programOf, plan}
+use Rattle.faithful.specs.Good.{Good, Inward, gateIndex, gateCondition, splitGuard, copyCondition, copySeed, carryCondition, argCondition, argCarried, inward}
+use Rattle.faithful.specs.Rows.{put-drop-none, src-cases}
+use Rattle.faithful.specs.Loop.{inLoop, only, only-yes, only-no, arg-row, in-two, in-arg, two-in, arg-in, two-out, eqb-yes, eqb-no, is-eqb, loop-stage, takes-no}
 
 abbrev pub sayIf : Bool → List ℕ → List ℕ
 sayIf true l = l
 sayIf false l = []
 
-abbrev pub Table3 : Type 0
-Table3 = Role → Option Effect
+abbrev pub Effects : Type 0
+Effects = Role → Option Effect
 
 -- the inner links of a loop
-pub data Eight : Type 0 where
-  gate0 gate1 : Eight
-  split0 inv0 inv1 : ℕ → Eight
-  carry0 arg0 arg1 : ℕ → Eight
+pub data Inlet : Type 0 where
+  gate0 gate1 : Inlet
+  split0 inv0 inv1 : ℕ → Inlet
+  carry0 arg0 arg1 : ℕ → Inlet
 
-abbrev pub node8 : ℕ → Eight → Role
-node8 L gate0 = gate L
-node8 L gate1 = gate L
-node8 L (split0 v) = copySplit L v
-node8 L (inv0 v) = copyInvariant L v
-node8 L (inv1 v) = copyInvariant L v
-node8 L (carry0 a) = carry a
-node8 L (arg0 a) = argSplit a
-node8 L (arg1 a) = argSplit a
+abbrev pub inletNode : ℕ → Inlet → Role
+inletNode L gate0 = gate L
+inletNode L gate1 = gate L
+inletNode L (split0 v) = copySplit L v
+inletNode L (inv0 v) = copyInvariant L v
+inletNode L (inv1 v) = copyInvariant L v
+inletNode L (carry0 a) = carry a
+inletNode L (arg0 a) = argSplit a
+inletNode L (arg1 a) = argSplit a
 
-abbrev pub in8 : Eight → Input
-in8 gate0 = in0
-in8 gate1 = in1
-in8 (split0 v) = in0
-in8 (inv0 v) = in0
-in8 (inv1 v) = in1
-in8 (carry0 a) = in0
-in8 (arg0 a) = in0
-in8 (arg1 a) = in1
+abbrev pub inletInput : Inlet → Input
+inletInput gate0 = in0
+inletInput gate1 = in1
+inletInput (split0 v) = in0
+inletInput (inv0 v) = in0
+inletInput (inv1 v) = in1
+inletInput (carry0 a) = in0
+inletInput (arg0 a) = in0
+inletInput (arg1 a) = in1
 
-abbrev pub from8 : ℕ → Eight → Role
-from8 L gate0 = stream L
-from8 L gate1 = stream L
-from8 L (split0 v) = guard L
-from8 L (inv0 v) = gate L
-from8 L (inv1 v) = copySplit L v
-from8 L (carry0 a) = stream L
-from8 L (arg0 a) = stream L
-from8 L (arg1 a) = carry a
+abbrev pub inletFrom : ℕ → Inlet → Role
+inletFrom L gate0 = stream L
+inletFrom L gate1 = stream L
+inletFrom L (split0 v) = guard L
+inletFrom L (inv0 v) = gate L
+inletFrom L (inv1 v) = copySplit L v
+inletFrom L (carry0 a) = stream L
+inletFrom L (arg0 a) = stream L
+inletFrom L (arg1 a) = carry a
 
-abbrev pub out8 : Eight → Output
-out8 gate0 = out0
-out8 gate1 = out1
-out8 (split0 v) = out0
-out8 (inv0 v) = out1
-out8 (inv1 v) = out0
-out8 (carry0 a) = out1
-out8 (arg0 a) = out1
-out8 (arg1 a) = out0
+abbrev pub inletOutput : Inlet → Output
+inletOutput gate0 = out0
+inletOutput gate1 = out1
+inletOutput (split0 v) = out0
+inletOutput (inv0 v) = out1
+inletOutput (inv1 v) = out0
+inletOutput (carry0 a) = out1
+inletOutput (arg0 a) = out1
+inletOutput (arg1 a) = out0
 
 module _ (tb : Table) (g : Good tb) (L : ℕ) (f : IsFor tb L) where
-  abbrev pub mem8 : Eight → Type 0
-  mem8 gate0 = Unit {0}
-  mem8 gate1 = Unit {0}
-  mem8 (split0 v) = tb .carried L v ≡ true
-  mem8 (inv0 v) = tb .carried L v ≡ true
-  mem8 (inv1 v) = tb .carried L v ≡ true
-  mem8 (carry0 a) = (tb .loop a ≡ L) × (isArg (tb .row a) ≡ true)
-  mem8 (arg0 a) = (tb .loop a ≡ L) × (isArg (tb .row a) ≡ true)
-  mem8 (arg1 a) = (tb .loop a ≡ L) × (isArg (tb .row a) ≡ true)
+  abbrev pub InletOf : Inlet → Type 0
+  InletOf gate0 = Unit {0}
+  InletOf gate1 = Unit {0}
+  InletOf (split0 v) = tb .carried L v ≡ true
+  InletOf (inv0 v) = tb .carried L v ≡ true
+  InletOf (inv1 v) = tb .carried L v ≡ true
+  InletOf (carry0 a) = (tb .loop a ≡ L) × (isArg (tb .row a) ≡ true)
+  InletOf (arg0 a) = (tb .loop a ≡ L) × (isArg (tb .row a) ≡ true)
+  InletOf (arg1 a) = (tb .loop a ≡ L) × (isArg (tb .row a) ≡ true)
 
-  node-in : (x : Eight) → mem8 x → inLoop tb L (node8 L x) ≡ true
+  node-in : (x : Inlet) → InletOf x → inLoop tb L (inletNode L x) ≡ true
   node-in gate0 m = eqb-yes L
   node-in gate1 m = eqb-yes L
   node-in (split0 v) m = two-in tb L v m
@@ -101,7 +100,7 @@ module _ (tb : Table) (g : Good tb) (L : ℕ) (f : IsFor tb L) where
   node-in (arg0 a) m = arg-in tb L a (m .0) (m .1)
   node-in (arg1 a) m = arg-in tb L a (m .0) (m .1)
 
-  from-in : (x : Eight) → mem8 x → inLoop tb L (from8 L x) ≡ true
+  from-in : (x : Inlet) → InletOf x → inLoop tb L (inletFrom L x) ≡ true
   from-in gate0 m = eqb-yes L
   from-in gate1 m = eqb-yes L
   from-in (split0 v) m = eqb-yes L
@@ -111,20 +110,20 @@ module _ (tb : Table) (g : Good tb) (L : ℕ) (f : IsFor tb L) where
   from-in (arg0 a) m = eqb-yes L
   from-in (arg1 a) m = arg-in tb L a (m .0) (m .1)
 
-  pub slot8 : (x : Eight) → mem8 x → slot tb (into (node8 L x) (in8 x)) ≡ inner (output (from8 L x) (out8 x))
-  slot8 gate0 m = rw (f .5)
-  slot8 gate1 m = rw (f .5)
-  slot8 (split0 v) m = rw m
-  slot8 (inv0 v) m = rw m
-  slot8 (inv1 v) m = rw m
-  slot8 (carry0 a) m = let r = arg-row tb a (m .1) in rw (r .1, m .0)
-  slot8 (arg0 a) m = rw (m .1, m .0)
-  slot8 (arg1 a) m = rw (m .1)
+  pub inlet-slot : (x : Inlet) → InletOf x → slot tb (into (inletNode L x) (inletInput x)) ≡ inner (output (inletFrom L x) (inletOutput x))
+  inlet-slot gate0 m = rw (f .5)
+  inlet-slot gate1 m = rw (f .5)
+  inlet-slot (split0 v) m = rw m
+  inlet-slot (inv0 v) m = rw m
+  inlet-slot (inv1 v) m = rw m
+  inlet-slot (carry0 a) m = let r = arg-row tb a (m .1) in rw (r .1, m .0)
+  inlet-slot (arg0 a) m = rw (m .1, m .0)
+  inlet-slot (arg1 a) m = rw (m .1)
 
-  -- an inner port is a link of this loop, or the loop does not touch it
+  -- an inner use is a link of this loop, or the loop does not touch it
   pub data Link (p : Use) (w : Wire) : Type 0 where
-    linked : (x : Eight) → mem8 x → p ≡ into (node8 L x) (in8 x) → w ≡ output (from8 L x) (out8 x) → Link p w
-    unlinked : ((eff : Table3) → given (only tb L eff) (some w) ≡ none) → ((eff : Table3) → taken (only tb L eff) p ≡ false) → Link p w
+    linked : (x : Inlet) → InletOf x → p ≡ into (inletNode L x) (inletInput x) → w ≡ output (inletFrom L x) (inletOutput x) → Link p w
+    unlinked : ((eff : Effects) → given (only tb L eff) (some w) ≡ none) → ((eff : Effects) → taken (only tb L eff) p ≡ false) → Link p w
 
   un : (p : Use) (w : Wire) (n m : Role) (k : Input) (o : Output) → p ≡ into n k → w ≡ output m o → inLoop tb L n ≡ false → inLoop tb L m ≡ false → Link p w
   un p w n m k o a b c d =
@@ -135,71 +134,71 @@ module _ (tb : Table) (g : Good tb) (L : ℕ) (f : IsFor tb L) where
   link p w q = go (inward tb p w q)
     where
       go : Inward tb p w → Link p w
-      go (nGate0 M a b fr) =
+      go (gateIndex M a b fr) =
           elim (ℕ-discrete M L) [
             | yes e ↦ linked gate0 tt (a ∙ ap (λ (z : ℕ). into (gate z) in0) e) (b ∙ ap (λ (z : ℕ). output (stream z) out0) e)
             | no e ↦ un p w (gate M) (stream M) in0 out0 a b (eqb-no M L e) (eqb-no M L e)
           ]
-      go (nGate1 M a b fr) =
+      go (gateCondition M a b fr) =
           elim (ℕ-discrete M L) [
             | yes e ↦ linked gate1 tt (a ∙ ap (λ (z : ℕ). into (gate z) in1) e) (b ∙ ap (λ (z : ℕ). output (stream z) out1) e)
             | no e ↦ un p w (gate M) (stream M) in1 out1 a b (eqb-no M L e) (eqb-no M L e)
           ]
-      go (nSplit M v a b c) =
+      go (splitGuard M v a b c) =
           elim (ℕ-discrete M L) [
             | yes e ↦ linked (split0 v) (subst (λ (z : ℕ). tb .carried z v ≡ true) e c) (a ∙ ap (λ (z : ℕ). into (copySplit z v) in0) e) (b ∙ ap (λ (z : ℕ). output (guard z) out0) e)
             | no e ↦ un p w (copySplit M v) (guard M) in0 out0 a b (two-out tb L M (tb .carried M v) e) (eqb-no M L e)
           ]
-      go (nInv0 M v a b c) =
+      go (copyCondition M v a b c) =
           elim (ℕ-discrete M L) [
             | yes e ↦ linked (inv0 v) (subst (λ (z : ℕ). tb .carried z v ≡ true) e c) (a ∙ ap (λ (z : ℕ). into (copyInvariant z v) in0) e) (b ∙ ap (λ (z : ℕ). output (gate z) out1) e)
             | no e ↦ un p w (copyInvariant M v) (gate M) in0 out1 a b (two-out tb L M (tb .carried M v) e) (eqb-no M L e)
           ]
-      go (nInv1 M v a b c) =
+      go (copySeed M v a b c) =
           elim (ℕ-discrete M L) [
             | yes e ↦ linked (inv1 v) (subst (λ (z : ℕ). tb .carried z v ≡ true) e c) (a ∙ ap (λ (z : ℕ). into (copyInvariant z v) in1) e) (b ∙ ap (λ (z : ℕ). output (copySplit z v) out0) e)
             | no e ↦ un p w (copyInvariant M v) (copySplit M v) in1 out0 a b (two-out tb L M (tb .carried M v) e) (two-out tb L M (tb .carried M v) e)
           ]
-      go (nCarry x i a b c) =
+      go (carryCondition x i a b c) =
           elim (ℕ-discrete (tb .loop x) L) [
             | yes e ↦ linked (carry0 x) (e, ap isArg c) a (b ∙ ap (λ (z : ℕ). output (stream z) out1) e)
             | no e ↦ un p w (carry x) (stream (tb .loop x)) in0 out1 a b (two-out tb L (tb .loop x) (isArg (tb .row x)) e) (eqb-no (tb .loop x) L e)
           ]
-      go (nArg0 x a b c) =
+      go (argCondition x a b c) =
           elim (ℕ-discrete (tb .loop x) L) [
             | yes e ↦ linked (arg0 x) (e, c) a (b ∙ ap (λ (z : ℕ). output (stream z) out1) e)
             | no e ↦ un p w (argSplit x) (stream (tb .loop x)) in0 out1 a b (two-out tb L (tb .loop x) (isArg (tb .row x)) e) (eqb-no (tb .loop x) L e)
           ]
-      go (nArg1 x a b c) =
+      go (argCarried x a b c) =
           elim (ℕ-discrete (tb .loop x) L) [
             | yes e ↦ linked (arg1 x) (e, c) a b
             | no e ↦ un p w (argSplit x) (carry x) in1 out0 a b (two-out tb L (tb .loop x) (isArg (tb .row x)) e) (two-out tb L (tb .loop x) (isArg (tb .row x)) e)
           ]
 
-  -- one stage at an inner port, at a value's port, at a record
-  abbrev pub flow : Table3 → Eight → Option ℕ → Option ℕ
-  flow e x t = put (giveBy (e (from8 L x)) (out8 x)) (drop (takeBy (e (node8 L x)) (in8 x)) t)
+  -- one stage at an inner use, at a value's use, at a record
+  abbrev pub flow : Effects → Inlet → Option ℕ → Option ℕ
+  flow e x t = put (giveBy (e (inletFrom L x)) (inletOutput x)) (drop (takeBy (e (inletNode L x)) (inletInput x)) t)
 
-  pub tok8 : (e : Table3) (s : State) (x : Eight) → mem8 x → (t : Option ℕ) → s .tok (into (node8 L x) (in8 x)) ≡ t
-      → after (plan tb) (only tb L e) s .tok (into (node8 L x) (in8 x)) ≡ flow e x t
-  tok8 e s x m t q =
-      ap (λ (z : Slot). put (given (only tb L e) (slotWire tb z)) (drop (taken (only tb L e) (into (node8 L x) (in8 x))) (s .tok (into (node8 L x) (in8 x))))) (slot8 x m)
-      ∙ ap₂ (λ (a b : Option Effect). put (giveBy a (out8 x)) (drop (takeBy b (in8 x)) (s .tok (into (node8 L x) (in8 x))))) (only-yes tb L e (from8 L x) (from-in x m)) (only-yes tb L e (node8 L x) (node-in x m))
+  pub inlet-token : (e : Effects) (s : State) (x : Inlet) → InletOf x → (t : Option ℕ) → s .tok (into (inletNode L x) (inletInput x)) ≡ t
+      → after (plan tb) (only tb L e) s .tok (into (inletNode L x) (inletInput x)) ≡ flow e x t
+  inlet-token e s x m t q =
+      ap (λ (z : Slot). put (given (only tb L e) (slotWire tb z)) (drop (taken (only tb L e) (into (inletNode L x) (inletInput x))) (s .tok (into (inletNode L x) (inletInput x))))) (inlet-slot x m)
+      ∙ ap₂ (λ (a b : Option Effect). put (giveBy a (inletOutput x)) (drop (takeBy b (inletInput x)) (s .tok (into (inletNode L x) (inletInput x))))) (only-yes tb L e (inletFrom L x) (from-in x m)) (only-yes tb L e (inletNode L x) (node-in x m))
       ∙ ap (flow e x) q
 
-  pub tok-un : (e : Table3) (s : State) (p : Use) (w : Wire) → slot tb p ≡ inner w → given (only tb L e) (some w) ≡ none → taken (only tb L e) p ≡ false
+  pub tok-un : (e : Effects) (s : State) (p : Use) (w : Wire) → slot tb p ≡ inner w → given (only tb L e) (some w) ≡ none → taken (only tb L e) p ≡ false
       → s .tok p ≡ none → after (plan tb) (only tb L e) s .tok p ≡ none
   tok-un e s p w q a b c =
       ap (λ (z : Slot). put (given (only tb L e) (slotWire tb z)) (drop (taken (only tb L e) p) (s .tok p))) q ∙ put-drop-none (given (only tb L e) (some w)) (taken (only tb L e) p) (s .tok p) a c
 
-  pub tokv : (e : Table3) (s : State) (p : Use) (v B c : ℕ) → slot tb p ≡ val v B c
+  pub tokv : (e : Effects) (s : State) (p : Use) (v B c : ℕ) → slot tb p ≡ val v B c
       → after (plan tb) (only tb L e) s .tok p ≡ put (given (only tb L e) (some (wireOf tb v B))) (drop (taken (only tb L e) p) (s .tok p))
   tokv e s p v B c q = ap (λ (z : Slot). put (given (only tb L e) (slotWire tb z)) (drop (taken (only tb L e) p) (s .tok p))) q
 
-  pub own-in : (e : Table3) (s : State) (n : Role) → inLoop tb L n ≡ true → after (plan tb) (only tb L e) s .own n ≡ nextBy (e n) (s .own n)
+  pub own-in : (e : Effects) (s : State) (n : Role) → inLoop tb L n ≡ true → after (plan tb) (only tb L e) s .own n ≡ nextBy (e n) (s .own n)
   own-in e s n h = ap (λ (z : Option Effect). nextBy z (s .own n)) (only-yes tb L e n h)
 
-  pub own-out : (e : Table3) (s : State) (n : Role) → inLoop tb L n ≡ false → after (plan tb) (only tb L e) s .own n ≡ s .own n
+  pub own-out : (e : Effects) (s : State) (n : Role) → inLoop tb L n ≡ false → after (plan tb) (only tb L e) s .own n ≡ s .own n
   own-out e s n h = ap (λ (z : Option Effect). nextBy z (s .own n)) (only-no tb L e n h)
 
   -- what holds for the roles of L, as they are named
@@ -219,8 +218,8 @@ module _ (tb : Table) (g : Good tb) (L : ℕ) (f : IsFor tb L) where
   real-in = by-role (Real tb) f f f (λ v h. (f, h)) (λ v h. (f, h)) (λ a i h _. (i, h)) (λ a i h _. (i, h))
 
   -- readiness of a stage, from the tokens where it starts
-  pub ready-all : (e : Table3) (s : State)
-      → ((n : Role) (d : Effect) → inLoop tb L n ≡ true → e n ≡ some d → perform (progOf tb n (s .own n)) (viewOf s n) ≡ some d)
+  pub ready-all : (e : Effects) (s : State)
+      → ((n : Role) (d : Effect) → inLoop tb L n ≡ true → e n ≡ some d → perform (programOf tb n (s .own n)) (viewOf s n) ≡ some d)
       → ((p : Use) (w : Wire) (y : ℕ) → slot tb p ≡ inner w → given (only tb L e) (some w) ≡ some y → s .tok p ≡ none)
       → ((p : Use) (v B c y : ℕ) → slot tb p ≡ val v B c → given (only tb L e) (some (wireOf tb v B)) ≡ some y → s .tok p ≡ none)
       → (n : Role) (d : Effect) → inLoop tb L n ≡ true → e n ≡ some d → Ready (plan tb) n d s
@@ -242,19 +241,19 @@ module _ (tb : Table) (g : Good tb) (L : ℕ) (f : IsFor tb L) where
           ]
 
   -- a role of the loop does nothing at this stage, or its program does what the table says
-  abbrev pub Runs : Table3 → State → Role → Type 0
-  Runs e s n = (e n ≡ none) ⊎ (perform (progOf tb n (s .own n)) (viewOf s n) ≡ e n)
+  abbrev pub Runs : Effects → State → Role → Type 0
+  Runs e s n = (e n ≡ none) ⊎ (perform (programOf tb n (s .own n)) (viewOf s n) ≡ e n)
 
-  pub to-runs : (e : Table3) (s : State) → ((n : Role) → inLoop tb L n ≡ true → Runs e s n)
-      → (n : Role) (d : Effect) → inLoop tb L n ≡ true → e n ≡ some d → perform (progOf tb n (s .own n)) (viewOf s n) ≡ some d
+  pub to-runs : (e : Effects) (s : State) → ((n : Role) → inLoop tb L n ≡ true → Runs e s n)
+      → (n : Role) (d : Effect) → inLoop tb L n ≡ true → e n ≡ some d → perform (programOf tb n (s .own n)) (viewOf s n) ≡ some d
   to-runs e s h n d m q = go (h n m)
     where
-      go : Runs e s n → perform (progOf tb n (s .own n)) (viewOf s n) ≡ some d
+      go : Runs e s n → perform (programOf tb n (s .own n)) (viewOf s n) ≡ some d
       go (inl z) = let z : _≡_ {A = ℕ} 0 1 = cc in absurd (omega arith)
       go (inr z) = z ∙ q
 
   -- ---- three stages
-  module _ (e1 e2 e3 : Table3) (s : State) (empty : (p : Use) (w : Wire) → slot tb p ≡ inner w → s .tok p ≡ none) where
+  module _ (e1 e2 e3 : Effects) (s : State) (empty : (p : Use) (w : Wire) → slot tb p ≡ inner w → s .tok p ≡ none) where
     abbrev pub S1 : State
     S1 = after (plan tb) (only tb L e1) s
 
@@ -264,41 +263,41 @@ module _ (tb : Table) (g : Good tb) (L : ℕ) (f : IsFor tb L) where
     abbrev pub S3 : State
     S3 = after (plan tb) (only tb L e3) S2
 
-    pub at1 : (x : Eight) → mem8 x → S1 .tok (into (node8 L x) (in8 x)) ≡ flow e1 x none
-    at1 x m = tok8 e1 s x m none (empty (into (node8 L x) (in8 x)) (output (from8 L x) (out8 x)) (slot8 x m))
+    pub at1 : (x : Inlet) → InletOf x → S1 .tok (into (inletNode L x) (inletInput x)) ≡ flow e1 x none
+    at1 x m = inlet-token e1 s x m none (empty (into (inletNode L x) (inletInput x)) (output (inletFrom L x) (inletOutput x)) (inlet-slot x m))
 
-    pub at2 : (x : Eight) → mem8 x → S2 .tok (into (node8 L x) (in8 x)) ≡ flow e2 x (flow e1 x none)
-    at2 x m = tok8 e2 S1 x m (flow e1 x none) (at1 x m)
+    pub at2 : (x : Inlet) → InletOf x → S2 .tok (into (inletNode L x) (inletInput x)) ≡ flow e2 x (flow e1 x none)
+    at2 x m = inlet-token e2 S1 x m (flow e1 x none) (at1 x m)
 
-    pub at3 : (x : Eight) → mem8 x → S3 .tok (into (node8 L x) (in8 x)) ≡ flow e3 x (flow e2 x (flow e1 x none))
-    at3 x m = tok8 e3 S2 x m (flow e2 x (flow e1 x none)) (at2 x m)
+    pub at3 : (x : Inlet) → InletOf x → S3 .tok (into (inletNode L x) (inletInput x)) ≡ flow e3 x (flow e2 x (flow e1 x none))
+    at3 x m = inlet-token e3 S2 x m (flow e2 x (flow e1 x none)) (at2 x m)
 
-    -- inner ports are empty again
-    pub inner3 : ((x : Eight) → flow e3 x (flow e2 x (flow e1 x none)) ≡ none) → (p : Use) (w : Wire) → slot tb p ≡ inner w → S3 .tok p ≡ none
+    -- inner uses are empty again
+    pub inner3 : ((x : Inlet) → flow e3 x (flow e2 x (flow e1 x none)) ≡ none) → (p : Use) (w : Wire) → slot tb p ≡ inner w → S3 .tok p ≡ none
     inner3 h p w q = go (link p w q)
       where
         go : Link p w → S3 .tok p ≡ none
         go (linked x m a b) = ap (S3 .tok) a ∙ at3 x m ∙ h x
         go (unlinked a b) = tok-un e3 S2 p w q (a e3) (b e3) (tok-un e2 S1 p w q (a e2) (b e2) (tok-un e1 s p w q (a e1) (b e1) (empty p w q)))
 
-    -- inner ports have room
-    room8 : (e : Table3) (x : Eight) → mem8 x → (w : Wire) (y : ℕ) → w ≡ output (from8 L x) (out8 x) → given (only tb L e) (some w) ≡ some y → giveBy (e (from8 L x)) (out8 x) ≡ some y
-    room8 e x m w y b k = ap (λ (z : Option Effect). giveBy z (out8 x)) (sym (only-yes tb L e (from8 L x) (from-in x m))) ∙ ap (λ (z : Wire). given (only tb L e) (some z)) (sym b) ∙ k
+    -- inner uses have room
+    inlet-room : (e : Effects) (x : Inlet) → InletOf x → (w : Wire) (y : ℕ) → w ≡ output (inletFrom L x) (inletOutput x) → given (only tb L e) (some w) ≡ some y → giveBy (e (inletFrom L x)) (inletOutput x) ≡ some y
+    inlet-room e x m w y b k = ap (λ (z : Option Effect). giveBy z (inletOutput x)) (sym (only-yes tb L e (inletFrom L x) (from-in x m))) ∙ ap (λ (z : Wire). given (only tb L e) (some z)) (sym b) ∙ k
 
-    pub room2 : ((x : Eight) (y : ℕ) → giveBy (e2 (from8 L x)) (out8 x) ≡ some y → flow e1 x none ≡ none)
+    pub room2 : ((x : Inlet) (y : ℕ) → giveBy (e2 (inletFrom L x)) (inletOutput x) ≡ some y → flow e1 x none ≡ none)
         → (p : Use) (w : Wire) (y : ℕ) → slot tb p ≡ inner w → given (only tb L e2) (some w) ≡ some y → S1 .tok p ≡ none
     room2 h p w y q k = go (link p w q)
       where
         go : Link p w → S1 .tok p ≡ none
-        go (linked x m a b) = ap (S1 .tok) a ∙ at1 x m ∙ h x y (room8 e2 x m w y b k)
+        go (linked x m a b) = ap (S1 .tok) a ∙ at1 x m ∙ h x y (inlet-room e2 x m w y b k)
         go (unlinked a b) = tok-un e1 s p w q (a e1) (b e1) (empty p w q)
 
-    pub room3 : ((x : Eight) (y : ℕ) → giveBy (e3 (from8 L x)) (out8 x) ≡ some y → flow e2 x (flow e1 x none) ≡ none)
+    pub room3 : ((x : Inlet) (y : ℕ) → giveBy (e3 (inletFrom L x)) (inletOutput x) ≡ some y → flow e2 x (flow e1 x none) ≡ none)
         → (p : Use) (w : Wire) (y : ℕ) → slot tb p ≡ inner w → given (only tb L e3) (some w) ≡ some y → S2 .tok p ≡ none
     room3 h p w y q k = go (link p w q)
       where
         go : Link p w → S2 .tok p ≡ none
-        go (linked x m a b) = ap (S2 .tok) a ∙ at2 x m ∙ h x y (room8 e3 x m w y b k)
+        go (linked x m a b) = ap (S2 .tok) a ∙ at2 x m ∙ h x y (inlet-room e3 x m w y b k)
         go (unlinked a b) = tok-un e2 S1 p w q (a e2) (b e2) (tok-un e1 s p w q (a e1) (b e1) (empty p w q))
 
     pub val3 : (p : Use) (v B c : ℕ) → slot tb p ≡ val v B c

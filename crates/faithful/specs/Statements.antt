@@ -18,18 +18,18 @@
 --
 -- The idea. By the first half it is enough to show one order that rests in the right state; let it follow the reading. The graph's configuration
 -- where the reading stands at row pc with words env is a closed form (Gamma): a use holds a token exactly if pc lies in an interval. Each step of
--- the reading is one to three stages of nodes that are ready together (StepOp, For, End); forks and drains are spread once for all (uses).
+-- the reading is one to three stages of nodes that are ready together (Rows, For, End); forks and drains are spread once for all (uses).
 -- Assumes nothing.
 use mathlib.Core.Path.{_≡_, refl, sym, ap, _∙_, subst}
 use mathlib.Core.Logic.{_≢_, _⊎_, inl, inr}
-use mathlib.Core.Bool.{Bool, true, false, cond, not, _||_}
-use mathlib.Core.Option.{Option, none, some}
-use mathlib.Core.List.{List, [], _∷_, _++_, reverse}
-use Prim.Native.Nat.{ℕ, zero, suc, _+_, _≤_, _<_}
+use mathlib.Core.Bool.{Bool, true, false, cond}
+use mathlib.Core.List.{List, reverse}
+use Prim.Native.Nat.{ℕ, _+_, _≤_}
 use native.Mathlib.Omega.{arith}
 use borrow.Author.Tests.{eqb-true}
 use lib.Dec.{eqb}
 use lib.ListN.{length}
+<<<<<<< HEAD
 use Rattle.step.specs.Kinds.{STREAM, Input, in0, in1, in2, out1}
 use Rattle.step.specs.Machines.{rest}
 use Rattle.graph.specs.Below.{every, every-each, times, times-somewhere}
@@ -40,23 +40,33 @@ use Rattle.state.specs.Load.{loaded}
 use Rattle.state.specs.Net.{netOf, fire}
 use Rattle.state.specs.Run.{isFull, isResult, complete, othersEmpty, resultsFull, phasesZero, COMPLETE, SPENT, ZERO-STEP, outcome}
 use Rattle.confluence.specs.Statements.{Fires, AtRest, putOnWire, RestsAlike, every-order-rests-alike, runOf, madeBy, enough-is-not-spent, run-is-an-order}
+=======
+use Rattle.step.specs.Kinds.{out1}
+use Rattle.graph.specs.Graph.{nodeCount}
+use Rattle.graph.specs.Refusal.{graphRefusal}
+use Rattle.graph.specs.Accepted.{node-in-range}
+use Rattle.state.specs.Load.{loaded}
+use Rattle.state.specs.Net.{netOf}
+use Rattle.state.specs.Run.{COMPLETE, SPENT, ZERO-STEP, outcome}
+use Rattle.confluence.specs.Statements.{Fires, AtRest, putOnWire, every-order-rests-alike, runOf, enough-is-not-spent, run-is-an-order}
+>>>>>>> faithful
 use Rattle.table.specs.Rows.{kindOf, size, FOR}
 use Rattle.table.specs.Check.{tableRefusal, answer}
 use Rattle.structure.specs.Structure.{Structure, passing-table-has-structure}
-use Rattle.reading.specs.Reading.{Opening, Outcome, ended, zeroStep, begin, read, readFrom, resultsFrom}
+use Rattle.reading.specs.Reading.{Opening, Outcome, ended, zeroStep, begin, read, resultsFrom}
 use Rattle.reading.specs.Outcome.{Reads}
-use Rattle.lowered.specs.Roles.{stream, gate, output, into, result}
+use Rattle.lowered.specs.Roles.{stream, gate, output}
 use Rattle.lowered.specs.Lower.{wireNumber, loweredWords}
 use Rattle.lowered.specs.Room.{checkAnswer, refusedBy, hasRoom}
 use Rattle.laid.specs.Answers.{number-0-is-no-refusal, checked-table-lowers}
 use Rattle.faithful.specs.Conditions.{turnsOf, turns-reverse, rawOf, gatedOf}
 use Rattle.faithful.specs.Table.{IsFor}
-use Rattle.faithful.specs.Tables.{tableOf, for-row, for-kind}
+use Rattle.faithful.specs.Tables.{tableOf, for-row}
 use Rattle.faithful.specs.Sound.{passing-is-good}
-use Rattle.faithful.specs.Following.{Follows, Ended, Faulted, followed}
+use Rattle.faithful.specs.Following.{Ended, Faulted, followed}
 use Rattle.faithful.specs.Finish.{finished, rests}
 use Rattle.faithful.specs.Places.{laid, num}
-use Rattle.faithful.specs.Order.{first-state, follows-first, Shows, order-shows}
+use Rattle.faithful.specs.Order.{first-state, follows-first, order-shows}
 use Rattle.faithful.specs.Endings.{AsRead, ended-as-read, answers-complete}
 use Rattle.faithful.specs.Faults.{ZeroStepped, zero-step-lasts, answers-zero-step}
 use Rattle.faithful.specs.Waiting.{waiting, not-complete}

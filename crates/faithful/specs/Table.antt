@@ -1,24 +1,30 @@
--- Loop tables, the plain reading in small steps, and the graph of a table before forks and drains, with nodes named by row and role.
+-- A table with what one scan says of it, and its graph before forks and drains: each node by its role, each use by what it reads.
+--
+--   Table                     rows, bodies with their first and last row, homes, ARGs and NEXTs, what is carried into a loop
+--   wireOf                    the wire on which a value comes to a body
+--   born, since               from which row on a value is there, at home and elsewhere
+--   Slot, slot, src           what a use reads: a value in a body until a row, or a wire of its own loop
+--   programOf, Real, HasOut      what a role does, which roles the table has, and their outputs
+--   plan                      the plan of the table
+--
+-- A body is a loop's FOR row; the outermost one is the row count, with first row 0 and last row the row count + 1, so that every question of
+-- nesting is one of numbers.
 -- Assumes nothing.
-use mathlib.Core.Path.{_≡_, refl, sym, ap, ap₂, _∙_, subst}
-use mathlib.Core.Logic.{_≢_, _⊎_, inl, inr}
-use mathlib.Core.Bool.{Bool, true, false, _&&_}
+use mathlib.Core.Path.{_≡_, refl, sym, ap, _∙_}
+use mathlib.Core.Bool.{Bool, true, false}
 use mathlib.Core.Option.{Option, none, some}
-use mathlib.Core.List.{List, [], _∷_, _++_}
-use Prim.Native.Nat.{ℕ, zero, suc, _+_, _*_, _≤_, _<_}
+use Prim.Native.Nat.{ℕ, zero, suc, _+_, _*_, _<_}
 use native.Mathlib.Omega.{arith}
-use native.Mathlib.Decide.{ℕ-discrete}
-use lib.Dec.{T, eqb, eqb→eq, eqb-refl}
-use Rattle.word.specs.Words.{condition, update, operate}
+use lib.Dec.{eqb}
 use Rattle.step.specs.Kinds.{Input, in0, in1, in2, Output, out0, out1, STREAM, GATE, CARRY, INVARIANT, SPLIT, OP, PICK}
-use Rattle.step.specs.Firing.{View, Effect, Program, stop, give, ask, perform, gives, takes, waits, room, fillable}
-use Rattle.step.specs.Machines
+use Rattle.step.specs.Firing.{View, Effect, Program, stop, give, ask, perform, gives, fillable}
 use Rattle.step.specs.Machines.{program, rest, inPhase, holding, whether}
-use Rattle.step.specs.Locality.{every-program-is-local, asking-inv, giving-inv, taking-gives}
+use Rattle.step.specs.Locality.{asking-inv, giving-inv, taking-gives}
 use Rattle.step.specs.declared.Record.{Record}
+use Rattle.step.specs.Machines
 use Rattle.table.specs.Bodies.{Row, input, const, op, pick, for, arg, next, end, out, unknown}
-use Rattle.lowered.specs.Roles.{Role, sameRole, opNode, stream, gate, guard, copySplit, copyInvariant, carry, argSplit, Wire, start, output, Use, into, result}
-use Rattle.uses.specs.Machine.{Plan, State, giveBy, takeBy, nextBy, put, drop, listed, given, taken, viewOf, Among, Once, after, one, one-same, one-other, Ready, Steps, steps-append, stage-cover, those}
+use Rattle.lowered.specs.Roles.{Role, opNode, stream, gate, guard, copySplit, copyInvariant, carry, argSplit, Wire, start, output, Use, into, result}
+use Rattle.uses.specs.Machine.{Plan}
 
 -- A table with what one scan says of it. A body is a loop's FOR row, or `size` for the outermost.
 pub record Table : Type 0 where
@@ -37,7 +43,7 @@ pub record Table : Type 0 where
   -- v is carried into L
   pub carried : ℕ → ℕ → Bool
 
--- what a port reads: a value v in a body, until a row; an inner wire; nothing
+-- what a use reads: a value v in a body, until a row; an inner wire; nothing
 pub data Slot : Type 0 where
   val : ℕ → ℕ → ℕ → Slot
   inner : Wire → Slot
@@ -224,41 +230,41 @@ resultSlot end B e = absent
 resultSlot unknown B e = absent
 resultSlot (out x) B e = val x B e
 
-abbrev pub opProg : Row → Record → Program
-opProg input r = stop
-opProg (const w) r = stop
-opProg (op c x y) r = program OP c r
-opProg (pick f x y) r = program PICK 0 r
-opProg (for s t b u c) r = stop
-opProg (arg i) r = stop
-opProg (next v) r = stop
-opProg end r = stop
-opProg unknown r = stop
-opProg (out x) r = stop
+abbrev pub opProgram : Row → Record → Program
+opProgram input r = stop
+opProgram (const w) r = stop
+opProgram (op c x y) r = program OP c r
+opProgram (pick f x y) r = program PICK 0 r
+opProgram (for s t b u c) r = stop
+opProgram (arg i) r = stop
+opProgram (next v) r = stop
+opProgram end r = stop
+opProgram unknown r = stop
+opProgram (out x) r = stop
 
-abbrev pub streamProg : Row → Record → Program
-streamProg input r = stop
-streamProg (const w) r = stop
-streamProg (op c x y) r = stop
-streamProg (pick f x y) r = stop
-streamProg (for s t b u c) r = program STREAM (5 * u + c) r
-streamProg (arg i) r = stop
-streamProg (next v) r = stop
-streamProg end r = stop
-streamProg unknown r = stop
-streamProg (out x) r = stop
+abbrev pub streamProgram : Row → Record → Program
+streamProgram input r = stop
+streamProgram (const w) r = stop
+streamProgram (op c x y) r = stop
+streamProgram (pick f x y) r = stop
+streamProgram (for s t b u c) r = program STREAM (5 * u + c) r
+streamProgram (arg i) r = stop
+streamProgram (next v) r = stop
+streamProgram end r = stop
+streamProgram unknown r = stop
+streamProgram (out x) r = stop
 
-abbrev pub guardProg : Row → Record → Program
-guardProg input r = stop
-guardProg (const w) r = stop
-guardProg (op c x y) r = stop
-guardProg (pick f x y) r = stop
-guardProg (for s t b u c) r = program OP (suc (suc (suc c))) r
-guardProg (arg i) r = stop
-guardProg (next v) r = stop
-guardProg end r = stop
-guardProg unknown r = stop
-guardProg (out x) r = stop
+abbrev pub guardProgram : Row → Record → Program
+guardProgram input r = stop
+guardProgram (const w) r = stop
+guardProgram (op c x y) r = stop
+guardProgram (pick f x y) r = stop
+guardProgram (for s t b u c) r = program OP (suc (suc (suc c))) r
+guardProgram (arg i) r = stop
+guardProgram (next v) r = stop
+guardProgram end r = stop
+guardProgram unknown r = stop
+guardProgram (out x) r = stop
 
 module _ (tb : Table) where
   abbrev pub IsFor : ℕ → Type 0
@@ -296,15 +302,15 @@ module _ (tb : Table) where
   abbrev pub src : Use → Option Wire
   src p = slotWire (slot p)
 
-  abbrev pub progOf : Role → Record → Program
-  progOf (opNode r) = opProg (tb .row r)
-  progOf (stream L) = streamProg (tb .row L)
-  progOf (gate L) = program GATE 0
-  progOf (guard L) = guardProg (tb .row L)
-  progOf (copySplit L v) = program SPLIT 0
-  progOf (copyInvariant L v) = program INVARIANT 0
-  progOf (carry a) = program CARRY 0
-  progOf (argSplit a) = program SPLIT 0
+  abbrev pub programOf : Role → Record → Program
+  programOf (opNode r) = opProgram (tb .row r)
+  programOf (stream L) = streamProgram (tb .row L)
+  programOf (gate L) = program GATE 0
+  programOf (guard L) = guardProgram (tb .row L)
+  programOf (copySplit L v) = program SPLIT 0
+  programOf (copyInvariant L v) = program INVARIANT 0
+  programOf (carry a) = program CARRY 0
+  programOf (argSplit a) = program SPLIT 0
 
   -- the roles that the table has
   abbrev pub isOp : Row → Bool
@@ -382,7 +388,7 @@ picker-one : (n : ℕ) → OneOut (Machines.picker n)
 picker-one zero = λ a b c. whether-one a (give (some b) none rest) (give (some c) none rest) refl refl
 picker-one (suc n) = tt
 
-op-one : (d : Row) (r : Record) → OneOut (opProg d r)
+op-one : (d : Row) (r : Record) → OneOut (opProgram d r)
 op-one input r = tt
 op-one (const w) r = tt
 op-one (op c x y) r = operator-one c (r .phase)
@@ -394,7 +400,7 @@ op-one end r = tt
 op-one unknown r = tt
 op-one (out x) r = tt
 
-guard-one : (d : Row) (r : Record) → OneOut (guardProg d r)
+guard-one : (d : Row) (r : Record) → OneOut (guardProgram d r)
 guard-one input r = tt
 guard-one (const w) r = tt
 guard-one (op c x y) r = tt
@@ -421,22 +427,22 @@ HasOut (argSplit a) out1 = Unit {0}
 not-both : {A : Type 0} (o : Option ℕ) (y : ℕ) → o ≡ none → o ≡ some y → A
 not-both o y a b = let z : _≡_ {A = ℕ} 0 1 = cc in absurd (omega arith)
 
-pub has-out : (tb : Table) (n : Role) (r : Record) (v : View) (e : Effect) → perform (progOf tb n r) v ≡ some e → (o : Output) (y : ℕ) → gives e o ≡ some y → HasOut n o
+pub has-out : (tb : Table) (n : Role) (r : Record) (v : View) (e : Effect) → perform (programOf tb n r) v ≡ some e → (o : Output) (y : ℕ) → gives e o ≡ some y → HasOut n o
 has-out tb n r v e q out0 y h = tt
-has-out tb (opNode x) r v e q out1 y h = not-both (gives e out1) y (one-out (progOf tb (opNode x) r) (op-one (tb .row x) r) v e q) h
+has-out tb (opNode x) r v e q out1 y h = not-both (gives e out1) y (one-out (programOf tb (opNode x) r) (op-one (tb .row x) r) v e q) h
 has-out tb (stream L) r v e q out1 y h = tt
 has-out tb (gate L) r v e q out1 y h = tt
-has-out tb (guard L) r v e q out1 y h = not-both (gives e out1) y (one-out (progOf tb (guard L) r) (guard-one (tb .row L) r) v e q) h
+has-out tb (guard L) r v e q out1 y h = not-both (gives e out1) y (one-out (programOf tb (guard L) r) (guard-one (tb .row L) r) v e q) h
 has-out tb (copySplit L x) r v e q out1 y h = tt
-has-out tb (copyInvariant L x) r v e q out1 y h = not-both (gives e out1) y (one-out (progOf tb (copyInvariant L x) r) (inv-one r (r .phase)) v e q) h
-has-out tb (carry a) r v e q out1 y h = not-both (gives e out1) y (one-out (progOf tb (carry a) r) (carry-one (r .phase)) v e q) h
+has-out tb (copyInvariant L x) r v e q out1 y h = not-both (gives e out1) y (one-out (programOf tb (copyInvariant L x) r) (inv-one r (r .phase)) v e q) h
+has-out tb (carry a) r v e q out1 y h = not-both (gives e out1) y (one-out (programOf tb (carry a) r) (carry-one (r .phase)) v e q) h
 has-out tb (argSplit a) r v e q out1 y h = tt
 
 abbrev pub plan : Table → Plan
 plan tb =
     record {
       source = src tb;
-      does = progOf tb;
+      does = programOf tb;
       Real = Real tb;
       HasOut = HasOut;
       Begins = λ v. (v < tb .size) × (isIn (tb .row v) ≡ true);

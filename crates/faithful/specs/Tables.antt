@@ -5,16 +5,16 @@
 --   kind-of-row               a row's form tells its kind, and that it is in the table
 --
 -- Assumes nothing.
-use mathlib.Core.Path.{_≡_, refl, sym, ap, _∙_, subst}
-use mathlib.Core.Logic.{_≢_, _⊎_, inl, inr}
-use mathlib.Core.Bool.{Bool, true, false, cond, _&&_}
+use mathlib.Core.Path.{_≡_, refl, sym, ap, _∙_}
+use mathlib.Core.Logic.{_≢_}
+use mathlib.Core.Bool.{cond, _&&_}
 use mathlib.Core.List.{List}
-use Prim.Native.Nat.{ℕ, zero, suc, _+_, _*_, _≤_, _<_}
+use Prim.Native.Nat.{ℕ, zero, suc, _≤_, _<_}
 use native.Mathlib.Omega.{arith}
 use native.Mathlib.Decide.{decLt}
 use borrow.Author.Tests.{lt-ltb, le-ltb, eq-eqb, ne-eqb, le-leb, lt-leb}
 use lib.Dec.{eqb, leb, ltb}
-use lib.ListN.{List·getD-eq-default, length}
+use lib.ListN.{List·getD-eq-default}
 use Rattle.table.specs.Rows.{kindOf, word, size, firstOperand}
 use Rattle.table.specs.Scan.{bodyOf, reads, home}
 use Rattle.table.specs.Bodies.{Row, input, const, op, pick, for, arg, next, end, out, unknown, rowBy, rowAt, operand, endOf, firstOf, argOf, nextOf}

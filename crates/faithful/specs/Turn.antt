@@ -1,47 +1,48 @@
--- What FOR and END steps share: rebinding of ARGs and NEXTs, values and records that a step does not touch.
+-- What the steps of FOR and END share: the words that a turn sets, and the uses and records that it leaves alone.
+--
+--   turnEnv, nextsTo          the index and the ARGs at a turn's beginning; the NEXTs when the loop is left
+--   turn-same, leave-same     a value that is live elsewhere keeps its word
+--   live-open, live-none, live-again, live-leave
+--                             a use that the step does not touch is live after it exactly if before
+--   inside-open, inside-none, inside-again, inside-leave
+--                             likewise for the bodies that pc is inside
+--
 -- Assumes nothing.
-use mathlib.Core.Path.{_≡_, refl, sym, ap, ap₂, _∙_, subst, subst₂}
+use mathlib.Core.Path.{_≡_, refl, sym, ap, ap₂, _∙_, subst}
 use mathlib.Core.Logic.{_≢_, _⊎_, inl, inr}
-use mathlib.Core.Bool.{Bool, true, false}
+use mathlib.Core.Bool.{Bool, true, false, _&&_}
 use mathlib.Core.Option.{Option, none, some}
-use mathlib.Core.List.{List, [], _∷_, _++_}
-use Prim.Native.Nat.{ℕ, zero, suc, _+_, _*_, _≤_, _<_}
+use Prim.Native.Nat.{ℕ, suc, _≤_, _<_}
 use native.Mathlib.Omega.{arith}
 use native.Mathlib.Decide.{ℕ-discrete, decLe}
-use lib.Dec.{T, eqb, eqb→eq, eqb-refl}
-use mir.Facts.{yes-eqb}
-use mathlib.Core.Bool.{_&&_}
-use Rattle.word.specs.Words.{condition, update, operate}
-use Rattle.step.specs.Kinds.{Input, in0, in1, in2, Output, out0, out1, STREAM, GATE, CARRY, INVARIANT, SPLIT, OP, PICK}
-use Rattle.step.specs.Firing.{View, Effect, Program, stop, give, ask, perform, gives, takes, waits, room, fillable}
-use Rattle.step.specs.Machines.{program, rest, inPhase, holding, whether}
-use Rattle.step.specs.Locality.{every-program-is-local, asking-inv, giving-inv, taking-gives}
+use lib.Dec.{eqb}
+use Rattle.step.specs.Kinds.{out0, out1}
+use Rattle.step.specs.Firing.{Effect}
 use Rattle.step.specs.declared.Record.{Record}
 use Rattle.table.specs.Bodies.{Row, input, const, op, pick, for, arg, next, end, out, unknown}
-use Rattle.lowered.specs.Roles.{Role, sameRole, opNode, stream, gate, guard, copySplit, copyInvariant, carry, argSplit, Wire, start, output, Use, into, result}
-use Rattle.uses.specs.Machine.{Plan, State, giveBy, takeBy, nextBy, put, drop, listed, given, taken, viewOf, Among, Once, after, one, one-same, one-other, Ready, Steps, steps-append, stage-cover, those}
-use Rattle.faithful.specs.Table.{Table, Slot, val, inner, absent, named, sinceBy, IsFor, wireOf, born, since, slot, slotWire, src, isOp, isStart, isArg, Real, progOf, plan}
-use Rattle.faithful.specs.Good.{Inner, Used, Good, Source, wStart, wOp, wFor, wArg, wNxt, wInv, source, ForPort, fStream, fGuard, fSplit, fCarry, When, byOp, byFor, byEnd, byOut, when, Inward, nGate0, nGate1, nSplit, nInv0, nInv1, nCarry, nArg0, nArg1, inward}
-use Rattle.faithful.specs.Gamma.{Env, streamHeld, Live, Inside, Shows, scope, held, Gamma, shows-same, shows-none, shows-some, Rel, before, behind, inside, around, for-not-end, rel, head-row, since-head, since-in, since-own, held-same}
-use Rattle.faithful.specs.StepOp.{setTo, set-same, set-other, sight, runs-by, put-drop-none, body-quiet, real-body, recs-same, since-row, src-cases, token-at, Path, choose}
-use Rattle.faithful.specs.Loop.{inLoop, only, only-yes, only-no, only-some, arg-row, in-two, in-arg, two-in, arg-in, two-out, eqb-yes, eqb-no, is-eqb, loop-stage, for-below, reads-not, Fill, fIdx, fArg, fInv, fExit, fNone, fill, Taking, tFor, tEnd, tNone, takes-yes, takes-no, taking}
-use Rattle.faithful.specs.Stages.{Table3, Eight, gate0, gate1, split0, inv0, inv1, carry0, arg0, arg1, node8, in8, from8, out8, mem8, slot8, flow, tokv, own-in, by-role, real-in, ready-all, S1, S2, S3, at1, at2, at3, inner3, room2, room3, val3, own2, own3, own-still, fired3}
-use Rattle.faithful.specs.StepOp.{setBy}
+use Rattle.lowered.specs.Roles.{Role, opNode, stream, gate, guard, copySplit, copyInvariant, carry, argSplit}
+use Rattle.uses.specs.Machine.{giveBy, given}
+use Rattle.faithful.specs.Table.{Table, sinceBy, IsFor, wireOf, born, since, isArg, Real}
+use Rattle.faithful.specs.Good.{Used, Good}
+use Rattle.faithful.specs.Gamma.{Env, Live, Inside, scope, before, behind, inside, around, rel, since-head, since-in, since-own}
+use Rattle.faithful.specs.Rows.{setTo, set-same, set-other, setBy}
+use Rattle.faithful.specs.Loop.{inLoop, only, arg-row, arg-in, eqb-yes, is-eqb, for-below, Fill, fillsIndex, fillsArg, fillsCopy, fillsExit, fillsNone}
+use Rattle.faithful.specs.Stages.{Effects}
 
 abbrev pub eff : Bool → Bool → Bool → Option ℕ → Option ℕ → Record → Option Effect
 eff a b c x y r = some (record { takes0 = a; takes1 = b; takes2 = c; gives0 = x; gives1 = y; next = r })
 
-abbrev pub isNxt : Row → Bool
-isNxt input = false
-isNxt (const w) = false
-isNxt (op c x y) = false
-isNxt (pick f x y) = false
-isNxt (for s t b u c) = false
-isNxt (arg i) = false
-isNxt (next v) = true
-isNxt end = false
-isNxt unknown = false
-isNxt (out x) = false
+abbrev pub isNext : Row → Bool
+isNext input = false
+isNext (const w) = false
+isNext (op c x y) = false
+isNext (pick f x y) = false
+isNext (for s t b u c) = false
+isNext (arg i) = false
+isNext (next v) = true
+isNext end = false
+isNext unknown = false
+isNext (out x) = false
 
 setBy-no : (b : Bool) (w x : ℕ) → (b ≡ true → ⊥) → setBy b w x ≡ x
 setBy-no true w x h = absurd (h refl)
@@ -57,7 +58,7 @@ module _ (tb : Table) where
   argsTo L h env v = setBy (eqb (tb .loop v) L && isArg (tb .row v)) (h v) (env v)
 
   unfoldable pub nextsTo : ℕ → Env → Env → Env
-  nextsTo L h env v = setBy (eqb (tb .loop v) L && isNxt (tb .row v)) (h v) (env v)
+  nextsTo L h env v = setBy (eqb (tb .loop v) L && isNext (tb .row v)) (h v) (env v)
 
   pub args-same : (L : ℕ) (h env : Env) (v : ℕ) → tb .loop v ≡ L → isArg (tb .row v) ≡ true → argsTo L h env v ≡ h v
   unfolding argsTo
@@ -68,19 +69,19 @@ module _ (tb : Table) where
   args-other L h env v n =
       setBy-no (eqb (tb .loop v) L && isArg (tb .row v)) (h v) (env v) (λ k. let z = and-both (eqb (tb .loop v) L) (isArg (tb .row v)) k in n (is-eqb (tb .loop v) L (z .0)) (z .1))
 
-  pub nexts-same : (L : ℕ) (h env : Env) (v : ℕ) → tb .loop v ≡ L → isNxt (tb .row v) ≡ true → nextsTo L h env v ≡ h v
+  pub nexts-same : (L : ℕ) (h env : Env) (v : ℕ) → tb .loop v ≡ L → isNext (tb .row v) ≡ true → nextsTo L h env v ≡ h v
   unfolding nextsTo
   nexts-same L h env v a b = rw (a, eqb-yes L, b)
 
-  pub nexts-other : (L : ℕ) (h env : Env) (v : ℕ) → (tb .loop v ≡ L → isNxt (tb .row v) ≡ true → ⊥) → nextsTo L h env v ≡ env v
+  pub nexts-other : (L : ℕ) (h env : Env) (v : ℕ) → (tb .loop v ≡ L → isNext (tb .row v) ≡ true → ⊥) → nextsTo L h env v ≡ env v
   unfolding nextsTo
   nexts-other L h env v n =
-      setBy-no (eqb (tb .loop v) L && isNxt (tb .row v)) (h v) (env v) (λ k. let z = and-both (eqb (tb .loop v) L) (isNxt (tb .row v)) k in n (is-eqb (tb .loop v) L (z .0)) (z .1))
+      setBy-no (eqb (tb .loop v) L && isNext (tb .row v)) (h v) (env v) (λ k. let z = and-both (eqb (tb .loop v) L) (isNext (tb .row v)) k in n (is-eqb (tb .loop v) L (z .0)) (z .1))
 
-  pub nxt-row : (a : ℕ) → isNxt (tb .row a) ≡ true → (x : ℕ) × (tb .row a ≡ next x)
-  nxt-row a h = go (tb .row a) refl h
+  pub next-row : (a : ℕ) → isNext (tb .row a) ≡ true → (x : ℕ) × (tb .row a ≡ next x)
+  next-row a h = go (tb .row a) refl h
     where
-      go : (d : Row) → tb .row a ≡ d → isNxt d ≡ true → (i : ℕ) × (tb .row a ≡ next i)
+      go : (d : Row) → tb .row a ≡ d → isNext d ≡ true → (i : ℕ) × (tb .row a ≡ next i)
       go input q k = let z : _≡_ {A = ℕ} 0 1 = cc in absurd (omega arith)
       go (const x) q k = let z : _≡_ {A = ℕ} 0 1 = cc in absurd (omega arith)
       go (op c x y) q k = let z : _≡_ {A = ℕ} 0 1 = cc in absurd (omega arith)
@@ -159,13 +160,13 @@ module _ (tb : Table) where
     pub leave-low : (v : ℕ) (h env : Env) → v < tb .first L → nextsTo L h env v ≡ env v
     leave-low v h env l =
         nexts-other L h env v
-        (λ a b. let r = nxt-row v b in let z : tb .first (tb .loop v) ≤ v = g .nxt-low v (r .0) (r .1) in let y : tb .first L ≤ v = subst (λ (w : ℕ). tb .first w ≤ v) a z in omega arith)
+        (λ a b. let r = next-row v b in let z : tb .first (tb .loop v) ≤ v = g .next-low v (r .0) (r .1) in let y : tb .first L ≤ v = subst (λ (w : ℕ). tb .first w ≤ v) a z in omega arith)
 
     pub leave-same : (v B c : ℕ) (h env : Env) → Used tb v B c → tb .first B ≤ suc (tb .last L) → ((x : ℕ) → tb .row v ≡ next x → tb .loop v ≡ L → tb .home v ≡ B → ⊥) → nextsTo L h env v ≡ env v
     leave-same v B c h env u lo n =
         nexts-other L h env v
         (λ a b.
-        let r = nxt-row v b in
+        let r = next-row v b in
         elim (ℕ-discrete (tb .home v) B) [
           | yes e ↦ n (r .0) (r .1) a e
           | no e ↦
@@ -397,13 +398,13 @@ module _ (tb : Table) where
     scope-not (argSplit a) rl h e = let a = for-below tb g L f in omega arith
 
     -- the values' wires on which a table gives nothing
-    pub g-none : (e : Table3) → giveBy (e (gate L)) out0 ≡ none → ((v : ℕ) → giveBy (e (argSplit v)) out0 ≡ none) → ((v : ℕ) → giveBy (e (argSplit v)) out1 ≡ none) → ((v : ℕ) → giveBy (e (copyInvariant L v)) out0 ≡ none)
+    pub g-none : (e : Effects) → giveBy (e (gate L)) out0 ≡ none → ((v : ℕ) → giveBy (e (argSplit v)) out0 ≡ none) → ((v : ℕ) → giveBy (e (argSplit v)) out1 ≡ none) → ((v : ℕ) → giveBy (e (copyInvariant L v)) out0 ≡ none)
         → (v B : ℕ) → Fill tb g L f v B → given (only tb L e) (some (wireOf tb v B)) ≡ none
-    g-none e h1 h2 h3 h4 v B (fIdx a b c d) = d e ∙ h1
-    g-none e h1 h2 h3 h4 v B (fArg i a b c d w) = w e ∙ h2 v
-    g-none e h1 h2 h3 h4 v B (fInv a b c d) = d e ∙ h4 v
-    g-none e h1 h2 h3 h4 v B (fExit x a b c d z w) = w e ∙ h3 (tb .argOf v)
-    g-none e h1 h2 h3 h4 v B (fNone a b d) = d e
+    g-none e h1 h2 h3 h4 v B (fillsIndex a b c d) = d e ∙ h1
+    g-none e h1 h2 h3 h4 v B (fillsArg i a b c d w) = w e ∙ h2 v
+    g-none e h1 h2 h3 h4 v B (fillsCopy a b c d) = d e ∙ h4 v
+    g-none e h1 h2 h3 h4 v B (fillsExit x a b c d z w) = w e ∙ h3 (tb .argOf v)
+    g-none e h1 h2 h3 h4 v B (fillsNone a b d) = d e
 
     pub no-gift : {A : Type 0} → (o : Option ℕ) (y : ℕ) → o ≡ none → o ≡ some y → A
     no-gift o y a b = let z : _≡_ {A = ℕ} 0 1 = cc in absurd (omega arith)

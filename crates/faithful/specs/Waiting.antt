@@ -4,43 +4,40 @@
 --   not-complete              a graph in which it waits is not complete: the wire of its step is full, and no result
 --
 -- Assumes nothing.
-use mathlib.Core.Path.{_≡_, refl, sym, ap, ap₂, _∙_, subst}
-use mathlib.Core.Logic.{_≢_}
+use mathlib.Core.Path.{_≡_, refl, sym, ap, _∙_, subst}
 use mathlib.Core.Bool.{Bool, true, false, not, _&&_, _||_}
-use mathlib.Core.Option.{Option, none, some}
+use mathlib.Core.Option.{Option, some}
 use mathlib.Core.List.{List, [], _∷_}
 use Prim.Native.Nat.{ℕ, zero, suc, _+_, _≤_, _<_}
 use native.Mathlib.Omega.{arith}
 use borrow.Author.Tests.{ltb-true, eqb-true}
-use lib.Dec.{eqb, ltb}
-use lib.ListN.{getElem?, getD}
+use lib.Dec.{eqb}
+use lib.ListN.{getD}
 use Rattle.word.specs.Words.{flag}
-use Rattle.step.specs.Kinds.{STREAM, Input, in0, in1, in2}
-use Rattle.step.specs.Machines.{rest}
-use Rattle.graph.specs.Below.{every, every-each, joined, times, times-somewhere}
+use Rattle.step.specs.Kinds.{Input, in0, in1, in2}
+use Rattle.graph.specs.Below.{every-each, times, times-somewhere}
 use Rattle.step.specs.Kept.{and-true}
-use Rattle.graph.specs.Graph.{Node, nodeAt, nodeCount, wireCount, inputAt, inputOf, resultCount, resultAt, results}
+use Rattle.graph.specs.Graph.{nodeCount, wireCount, inputAt, resultCount, resultAt, results}
 use Rattle.graph.specs.Refusal.{graphRefusal}
 use Rattle.graph.specs.Accepted.{node-in-range}
-use Rattle.state.specs.State.{fullPlace, wordPlace, token, tokenAt, isEmpty, recordAt}
-use Rattle.state.specs.Net.{netOf}
+use Rattle.state.specs.State.{fullPlace, wordPlace, token, tokenAt, isEmpty}
 use Rattle.state.specs.Run.{isFull, isResult, resultsFull, othersEmpty, phasesZero, complete}
 use Rattle.confluence.specs.Graphs.{accepted-is-wired}
 use Rattle.table.specs.Rows.{word, size}
 use Rattle.table.specs.Scan.{reads}
-use Rattle.table.specs.Bodies.{for, out}
+use Rattle.table.specs.Bodies.{for}
 use Rattle.structure.specs.Structure.{Structure}
-use Rattle.lowered.specs.Roles.{stream, Wire, Use, into, result}
+use Rattle.lowered.specs.Roles.{stream, Wire, into, result}
 use Rattle.lowered.specs.Lower.{standsOn, roleNode, loweredWords}
 use Rattle.laid.specs.Words.{result-at}
 use Rattle.uses.specs.Machine.{State}
-use Rattle.uses.specs.Layout.{Layout, portOf, Shown, port-tree}
-use Rattle.uses.specs.Flat.{Holds, Rep}
-use Rattle.faithful.specs.Table.{Table, val, IsFor, wireOf, slot, slotWire, src, plan}
+use Rattle.uses.specs.Layout.{wireIf}
+use Rattle.uses.specs.Flat.{Holds}
+use Rattle.faithful.specs.Table.{Table, IsFor, wireOf, src}
 use Rattle.faithful.specs.Good.{Good}
-use Rattle.faithful.specs.Gamma.{Env, Inside, Gamma}
-use Rattle.faithful.specs.StepOp.{token-at}
-use Rattle.faithful.specs.Tables.{tableOf, for-kind}
+use Rattle.faithful.specs.Gamma.{Env, Gamma}
+use Rattle.faithful.specs.Rows.{token-at}
+use Rattle.faithful.specs.Tables.{tableOf}
 use Rattle.faithful.specs.Sound.{passing-is-good}
 use Rattle.faithful.specs.Places.{num, layout, laid, role-node, firstOf}
 use Rattle.faithful.specs.Order.{Shows}
@@ -64,7 +61,7 @@ module _ (t : List ℕ) (S : Structure t) (ok : graphRefusal (loweredWords t) �
   unfolding layout
   stream-input L a st b u c q k =
       let s = stream-source L a st b u c q k in
-      layout t S .ins (stream L) (a, st, b, u, c, q) k ∙ ap (λ (z : Option Wire). portOf z (standsOn t (into (stream L) k))) (s .1)
+      layout t S .ins (stream L) (a, st, b, u, c, q) k ∙ ap (λ (z : Option Wire). wireIf z (standsOn t (into (stream L) k))) (s .1)
 
   pub waiting : (inputs : List ℕ) (L a st b u c : ℕ) → tb .row L ≡ for a st b u c → (env : Env) (there : State) → Gamma tb L env there → env st ≡ 0 → (x : Shows t S ok inputs there)
       → ZeroStepped g (x .state) (num t S (stream L))
@@ -74,7 +71,7 @@ module _ (t : List ℕ) (S : Structure t) (ok : graphRefusal (loweredWords t) �
         node = roleNode t (firstOf t S (stream L)) (stream L);
         here = role-node t S (stream L) isfor;
         is-stream = refl;
-        idle = x .flat .record-of (num t S (stream L)) below ∙ x .shown .at-node (stream L) isfor ∙ G .recs-out (stream L) isfor (λ i. let k = good .for-first L isfor in let i0 = i .0 in omega arith);
+        idle = x .flat .record-of (num t S (stream L)) below ∙ x .shown .at-node (stream L) isfor ∙ G .records-out (stream L) isfor (λ i. let k = good .for-first L isfor in let i0 = i .0 in omega arith);
         wire = λ k. standsOn t (into (stream L) k);
         wires = stream-input L a st b u c q;
         start = env a;
@@ -98,7 +95,7 @@ module _ (t : List ℕ) (S : Structure t) (ok : graphRefusal (loweredWords t) �
           let s = stream-source L a st b u c q k in
           let l = accepted-is-wired g ok .input-below (num t S (stream L)) k (standsOn t (into (stream L) k)) (stream-input L a st b u c q k) in
           holds-token (x .state) (standsOn t (into (stream L) k)) v
-          (subst (λ (z : Option ℕ). Holds (x .state) (standsOn t (into (stream L) k)) z) (x .shown .at-port (into (stream L) k) (s .0) (s .1) ∙ h) (x .flat .wire (standsOn t (into (stream L) k)) l))
+          (subst (λ (z : Option ℕ). Holds (x .state) (standsOn t (into (stream L) k)) z) (x .shown .at-use (into (stream L) k) (s .0) (s .1) ∙ h) (x .flat .wire (standsOn t (into (stream L) k)) l))
 
   -- ---- not complete
 

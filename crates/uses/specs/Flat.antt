@@ -6,18 +6,18 @@
 --
 -- Assumes nothing.
 use mathlib.Core.Path.{_≡_, refl, sym, ap, ap₂, _∙_, subst}
-use mathlib.Core.Logic.{_≢_, _⊎_, inl, inr}
+use mathlib.Core.Logic.{_≢_}
 use mathlib.Core.Bool.{Bool, true, false}
 use mathlib.Core.Option.{Option, none, some}
 use mathlib.Core.List.{List, [], _∷_, _++_}
-use Prim.Native.Nat.{ℕ, zero, suc, _+_, _*_, _≤_, _<_}
+use Prim.Native.Nat.{ℕ, _+_, _*_, _≤_, _<_}
 use native.Mathlib.Omega.{arith}
 use native.Mathlib.Decide.{ℕ-discrete}
+use borrow.Author.Tests.{eq-eqb, ne-eqb}
 use lib.ListN.{getD, set, length, length-set}
 use lib.Seq.{getD-set-same, getD-set-other}
-use borrow.Author.Tests.{eq-eqb, ne-eqb}
 use lib.Dec.{eqb}
-use Rattle.step.specs.Kinds.{Input, in0, in1, in2, Output, out0, out1}
+use Rattle.step.specs.Kinds.{in0, in1, in2, out0, out1}
 use Rattle.step.specs.Firing.{View, Effect}
 use Rattle.step.specs.declared.Record.{Record}
 use Rattle.state.specs.State.{token, isEmpty, tokenOn, hasRoom, recordAt, stored, emptied, filled, kept, stored-append, length-stored}
@@ -25,8 +25,8 @@ use Rattle.state.specs.Net.{Net, view, effectAt, stores, fire}
 use Rattle.confluence.specs.Orders.{fires, fires-none, fires-on, history-none, history-on}
 use Rattle.confluence.specs.Places.{stored-other}
 use Rattle.confluence.specs.Wired.{Wired, fired}
-use Rattle.confluence.specs.Histories.{putAt, putBy, historyOf, puts}
-use Rattle.uses.specs.Wires.{Tokens, vacant, inTok, hasSpace, cut, clearTok, fillTok, recBy, view2, fire2, Steps2, puts2}
+use Rattle.confluence.specs.Histories.{putAt, putBy, historyOf}
+use Rattle.uses.specs.Wires.{Tokens, vacant, inTok, hasSpace, clearTok, fillTok, recBy, view2, fire2, Steps2, puts2}
 
 abbrev pub flag : Option ℕ → ℕ
 flag none = 0

@@ -26,14 +26,14 @@ use Rattle.state.specs.Net.{Net}
 use Rattle.confluence.specs.Histories.{putOn, puts}
 use Rattle.lowered.specs.Roles.{Role, sameRole, Wire, start, output, Use, into, result}
 use Rattle.uses.specs.Machine.{Plan, State, giveBy, takeBy, nextBy, put, drop, listed, given, taken, viewOf, Among, after, one, one-same, one-other, Ready, Steps}
-use Rattle.uses.specs.Wires.{Tokens, vacant, inTok, hasSpace, clearTok, fillTok, recBy, view2, fire2, Steps2, steps2-append, puts2, puts2-append, Has, Once, Spread, below, nodes, OneOf, Spreads, ports-in, spread}
+use Rattle.uses.specs.Wires.{Tokens, vacant, inTok, hasSpace, clearTok, fillTok, recBy, view2, fire2, Steps2, steps2-append, puts2, puts2-append, Has, Once, Spread, below, nodes, OneOf, Spreads, uses-in, spread}
 
 not-both : {A : Type 0} (o : Option ℕ) (y : ℕ) → o ≡ none → o ≡ some y → A
 not-both o y a b = let z : _≡_ {A = ℕ} 0 1 = cc in absurd (omega arith)
 
-abbrev pub portOf : Option Wire → ℕ → Option ℕ
-portOf none x = none
-portOf (some w) x = some x
+abbrev pub wireIf : Option Wire → ℕ → Option ℕ
+wireIf none x = none
+wireIf (some w) x = some x
 
 module _ (plan : Plan) where
   -- the wires that the plan has
@@ -43,7 +43,7 @@ module _ (plan : Plan) where
 
 -- how a net lays out a plan
 pub record Layout (plan : Plan) (net : Net) : Type 0 where
-  -- node of a role, wire of a port, wire of an output before forks
+  -- node of a role, wire of a use, wire of an output before forks
   pub num : Role → ℕ
   pub pw : Use → ℕ
   pub ww : Wire → ℕ
@@ -59,7 +59,7 @@ pub record Layout (plan : Plan) (net : Net) : Type 0 where
   pub pw-inj : (p r : Use) (w u : Wire) → plan .source p ≡ some w → plan .source r ≡ some u → pw p ≡ pw r → p ≡ r
   pub num-inj : (n m : Role) → plan .Real n → plan .Real m → num n ≡ num m → n ≡ m
   pub aside : (n : Role) → plan .Real n → (w : Wire) → Made plan w → Has (num n) (forks w) → ⊥
-  pub ins : (n : Role) → plan .Real n → (k : Input) → net .input (num n) k ≡ portOf (plan .source (into n k)) (pw (into n k))
+  pub ins : (n : Role) → plan .Real n → (k : Input) → net .input (num n) k ≡ wireIf (plan .source (into n k)) (pw (into n k))
   pub outs : (n : Role) → plan .Real n → (o : Output) → plan .HasOut n o → net .output (num n) o ≡ some (ww (output n o))
   pub does : (n : Role) → plan .Real n → (v : View) → net .node (num n) v ≡ perform (plan .does n (v .own)) v
 
@@ -73,7 +73,7 @@ module _ (plan : Plan) (net : Net) (y : Layout plan net) where
 
   -- the real state Z shows the state s of the use machine
   pub record Shown (Z : Tokens) (s : State) : Type 0 where
-    pub at-port : (p : Use) (w : Wire) → plan .source p ≡ some w → Z .wt (y .pw p) ≡ s .tok p
+    pub at-use : (p : Use) (w : Wire) → plan .source p ≡ some w → Z .wt (y .pw p) ≡ s .tok p
     pub between : (w : Wire) → Made plan w → (x : ℕ) → Tree x w → (UseOf x w → ⊥) → Z .wt x ≡ none
     pub at-node : (n : Role) → plan .Real n → Z .wr (y .num n) ≡ s .own n
     pub at-fork : (w : Wire) → Made plan w → (i : ℕ) → Has i (y .forks w) → Z .wr i ≡ rest
@@ -93,10 +93,10 @@ module _ (plan : Plan) (net : Net) (y : Layout plan net) where
           neither a b (inl h) = a h
           neither a b (inr h) = b h
 
-  pub use-port : (x : ℕ) (ps : List Use) → OneOf net (y .pw) x ps → (p : Use) × Among p ps × (x ≡ y .pw p)
-  use-port x [] h = absurd h
-  use-port x (p ∷ ps) (inl h) = (p, inl refl, h)
-  use-port x (p ∷ ps) (inr h) = let r = use-port x ps h in (r .0, inr (r .1), r .2)
+  pub use-found : (x : ℕ) (ps : List Use) → OneOf net (y .pw) x ps → (p : Use) × Among p ps × (x ≡ y .pw p)
+  use-found x [] h = absurd h
+  use-found x (p ∷ ps) (inl h) = (p, inl refl, h)
+  use-found x (p ∷ ps) (inr h) = let r = use-found x ps h in (r .0, inr (r .1), r .2)
 
   pub among-use : (p : Use) (ps : List Use) → Among p ps → OneOf net (y .pw) (y .pw p) ps
   among-use p [] h = absurd h
@@ -104,18 +104,18 @@ module _ (plan : Plan) (net : Net) (y : Layout plan net) where
   among-use p (x ∷ ps) (inr h) = inr (among-use p ps h)
 
   pub use-tree : (x : ℕ) (w : Wire) → Made plan w → UseOf x w → Tree x w
-  use-tree x w m h = subst (λ (l : List ℕ). Has x (y .ww w ∷ l)) (y .sp w m .1) (ports-in net (y .pw) (y .sp w m .0) x h)
+  use-tree x w m h = subst (λ (l : List ℕ). Has x (y .ww w ∷ l)) (y .sp w m .1) (uses-in net (y .pw) (y .sp w m .0) x h)
 
-  pub port-tree : (p : Use) (w : Wire) → plan .source p ≡ some w → Tree (y .pw p) w
-  port-tree p w h = let u = y .users-full p w h in use-tree (y .pw p) w (u .1) (among-use p (y .users w) (u .0))
+  pub use-in-tree : (p : Use) (w : Wire) → plan .source p ≡ some w → Tree (y .pw p) w
+  use-in-tree p w h = let u = y .users-full p w h in use-tree (y .pw p) w (u .1) (among-use p (y .users w) (u .0))
 
   tree-empty : (Z : Tokens) (s : State) → Shown Z s → (w : Wire) → Made plan w → ((p : Use) → plan .source p ≡ some w → s .tok p ≡ none) → (x : ℕ) → Tree x w → Z .wt x ≡ none
   tree-empty Z s R w m h x t =
       elim (dec-use x (y .users w)) [
         | yes u ↦
-            let r = use-port x (y .users w) u in
+            let r = use-found x (y .users w) u in
             let q = y .users-sound (r .0) w m (r .1) in
-            ap (Z .wt) (r .2) ∙ R .at-port (r .0) w q ∙ h (r .0) q
+            ap (Z .wt) (r .2) ∙ R .at-use (r .0) w q ∙ h (r .0) q
         | no u ↦ R .between w m x t u
       ]
 
@@ -142,9 +142,9 @@ module _ (plan : Plan) (net : Net) (y : Layout plan net) where
   clear-yes o true x t a = rw (a, eq-eqb x x refl)
   clear-yes o false x t a = rw a
 
-  port-some : (w : Option Wire) (x u : ℕ) → portOf w x ≡ some u → (v : Wire) × (w ≡ some v) × (x ≡ u)
-  port-some none x u h = let z : _≡_ {A = ℕ} 0 1 = cc in absurd (omega arith)
-  port-some (some v) x u h = (v, refl, cc)
+  wire-some : (w : Option Wire) (x u : ℕ) → wireIf w x ≡ some u → (v : Wire) × (w ≡ some v) × (x ≡ u)
+  wire-some none x u h = let z : _≡_ {A = ℕ} 0 1 = cc in absurd (omega arith)
+  wire-some (some v) x u h = (v, refl, cc)
 
   module _ (Z : Tokens) (s : State) (R : Shown Z s) (n : Role) (e : Effect) (rd : Ready plan n e s) where
     rl : plan .Real n
@@ -168,8 +168,8 @@ module _ (plan : Plan) (net : Net) (y : Layout plan net) where
     in-tok k = go (plan .source (into n k)) refl
       where
         go : (w : Option Wire) → plan .source (into n k) ≡ w → inTok Z (net .input (y .num n) k) ≡ s .tok (into n k)
-        go none h = ap (inTok Z) (y .ins n rl k ∙ ap (λ (z : Option Wire). portOf z (y .pw (into n k))) h) ∙ sym (R .nowhere (into n k) h)
-        go (some w) h = ap (inTok Z) (y .ins n rl k ∙ ap (λ (z : Option Wire). portOf z (y .pw (into n k))) h) ∙ R .at-port (into n k) w h
+        go none h = ap (inTok Z) (y .ins n rl k ∙ ap (λ (z : Option Wire). wireIf z (y .pw (into n k))) h) ∙ sym (R .nowhere (into n k) h)
+        go (some w) h = ap (inTok Z) (y .ins n rl k ∙ ap (λ (z : Option Wire). wireIf z (y .pw (into n k))) h) ∙ R .at-use (into n k) w h
 
     fires : net .node i (view2 net Z i) ≡ some e
     unfolding i rl
@@ -228,7 +228,7 @@ module _ (plan : Plan) (net : Net) (y : Layout plan net) where
         not : (o : Output) (u z : ℕ) → net .output i o ≡ some u → gives e o ≡ some z → u ≢ x
         not o u z p q c = h o z q (let d : some u ≡ some (y .ww (output n o)) = sym p ∙ out-wire o z q in let d′ : u ≡ y .ww (output n o) = cc in sym c ∙ d′)
 
-    -- a wire that is no port of n
+    -- a wire that is no use of n
     clear-else : (x : ℕ) → ((k : Input) (w : Wire) → plan .source (into n k) ≡ some w → takes e k ≡ true → y .pw (into n k) ≢ x) → cleared x ≡ Z .wt x
     unfolding i
     clear-else x h =
@@ -236,41 +236,41 @@ module _ (plan : Plan) (net : Net) (y : Layout plan net) where
         ∙ clear-no (net .input i in1) (e .takes1) x (clearTok (net .input i in0) (e .takes0) x (Z .wt x)) (not in1) ∙ clear-no (net .input i in0) (e .takes0) x (Z .wt x) (not in0)
       where
         not : (k : Input) (u : ℕ) → net .input (y .num n) k ≡ some u → takes e k ≡ true → u ≢ x
-        not k u p q c = let r = port-some (plan .source (into n k)) (y .pw (into n k)) u (sym (y .ins n rl k) ∙ p) in h k (r .0) (r .1) q (r .2 ∙ c)
+        not k u p q c = let r = wire-some (plan .source (into n k)) (y .pw (into n k)) u (sym (y .ins n rl k) ∙ p) in h k (r .0) (r .1) q (r .2 ∙ c)
 
-    -- a port of n
+    -- a use of n
     clear-other : (j k : Input) (b : Bool) (w : Wire) (t : Option ℕ) → plan .source (into n k) ≡ some w → (j ≡ k → ⊥) → clearTok (net .input i j) b (y .pw (into n k)) t ≡ t
     unfolding i
     clear-other j k b w t h ne =
         clear-no (net .input i j) b (y .pw (into n k)) t
         (λ u p q c.
-        let r = port-some (plan .source (into n j)) (y .pw (into n j)) u (sym (y .ins n rl j) ∙ p) in
+        let r = wire-some (plan .source (into n j)) (y .pw (into n j)) u (sym (y .ins n rl j) ∙ p) in
         let d : into n j ≡ into n k = y .pw-inj (into n j) (into n k) (r .0) w (r .1) h (r .2 ∙ c) in
         ne (cc))
 
     clear-own : (k : Input) (b : Bool) (w : Wire) (t : Option ℕ) → plan .source (into n k) ≡ some w → clearTok (net .input i k) b (y .pw (into n k)) t ≡ drop b t
     unfolding i
-    clear-own k b w t h = clear-yes (net .input i k) b (y .pw (into n k)) t (y .ins n rl k ∙ ap (λ (z : Option Wire). portOf z (y .pw (into n k))) h)
+    clear-own k b w t h = clear-yes (net .input i k) b (y .pw (into n k)) t (y .ins n rl k ∙ ap (λ (z : Option Wire). wireIf z (y .pw (into n k))) h)
 
-    clear-port : (k : Input) (w : Wire) → plan .source (into n k) ≡ some w → cleared (y .pw (into n k)) ≡ drop (takes e k) (Z .wt (y .pw (into n k)))
-    clear-port in0 w h =
+    clear-use : (k : Input) (w : Wire) → plan .source (into n k) ≡ some w → cleared (y .pw (into n k)) ≡ drop (takes e k) (Z .wt (y .pw (into n k)))
+    clear-use in0 w h =
         clear-other in2 in0 (e .takes2) w (clearTok (net .input i in1) (e .takes1) (y .pw (into n in0)) (clearTok (net .input i in0) (e .takes0) (y .pw (into n in0)) (Z .wt (y .pw (into n in0))))) h (λ c. let z : _≡_ {A = ℕ} 0 1 = cc in omega arith)
         ∙ clear-other in1 in0 (e .takes1) w (clearTok (net .input i in0) (e .takes0) (y .pw (into n in0)) (Z .wt (y .pw (into n in0)))) h (λ c. let z : _≡_ {A = ℕ} 0 1 = cc in omega arith)
         ∙ clear-own in0 (e .takes0) w (Z .wt (y .pw (into n in0))) h
-    clear-port in1 w h =
+    clear-use in1 w h =
         clear-other in2 in1 (e .takes2) w (clearTok (net .input i in1) (e .takes1) (y .pw (into n in1)) (clearTok (net .input i in0) (e .takes0) (y .pw (into n in1)) (Z .wt (y .pw (into n in1))))) h (λ c. let z : _≡_ {A = ℕ} 0 1 = cc in omega arith)
         ∙ clear-own in1 (e .takes1) w (clearTok (net .input i in0) (e .takes0) (y .pw (into n in1)) (Z .wt (y .pw (into n in1)))) h
         ∙ ap (drop (e .takes1)) (clear-other in0 in1 (e .takes0) w (Z .wt (y .pw (into n in1))) h (λ c. let z : _≡_ {A = ℕ} 0 1 = cc in omega arith))
-    clear-port in2 w h =
+    clear-use in2 w h =
         clear-own in2 (e .takes2) w (clearTok (net .input i in1) (e .takes1) (y .pw (into n in2)) (clearTok (net .input i in0) (e .takes0) (y .pw (into n in2)) (Z .wt (y .pw (into n in2))))) h
         ∙ ap (drop (e .takes2)) (clear-other in1 in2 (e .takes1) w (clearTok (net .input i in0) (e .takes0) (y .pw (into n in2)) (Z .wt (y .pw (into n in2)))) h (λ c. let z : _≡_ {A = ℕ} 0 1 = cc in omega arith)
         ∙ clear-other in0 in2 (e .takes0) w (Z .wt (y .pw (into n in2))) h (λ c. let z : _≡_ {A = ℕ} 0 1 = cc in omega arith))
 
-    -- a taken port is full, so it stands in no tree that is given
+    -- a taken use is full, so it stands in no tree that is given
     taken-not : (o : Output) (z : ℕ) → gives e o ≡ some z → (x : ℕ) → Tree x (output n o) → (k : Input) (w : Wire) → plan .source (into n k) ≡ some w → takes e k ≡ true → y .pw (into n k) ≢ x
     taken-not o z h x t k w q tk c =
         every-program-is-local (plan .does n) .full (viewOf s n) e (rd .runs) k tk
-        (back k (sym (R .at-port (into n k) w q) ∙ ap (Z .wt) c ∙ free-tree o z h x t))
+        (back k (sym (R .at-use (into n k) w q) ∙ ap (Z .wt) c ∙ free-tree o z h x t))
       where
         back : (k : Input) → s .tok (into n k) ≡ none → waits (viewOf s n) k ≡ none
         back in0 h = h
@@ -331,7 +331,7 @@ module _ (plan : Plan) (net : Net) (y : Layout plan net) where
               r .1,
               r .2,
               record {
-                hit = λ z′ h x t. u .ports x t ∙ (let d : z ≡ z′ = cc in ap some d);
+                hit = λ z′ h x t. u .reached x t ∙ (let d : z ≡ z′ = cc in ap some d);
                 miss = λ z′ h x t k. missing (r .1) u x t k;
                 same = λ x h. u .others x (λ c. h z q (inl c)) (λ k. h z q (use-tree x (output n o) m k));
                 recs = u .recs;
@@ -381,20 +381,20 @@ module _ (plan : Plan) (net : Net) (y : Layout plan net) where
       toks : (p : Use) (w : Wire) → plan .source p ≡ some w → given (one n e) (some w) ≡ none → cleared (y .pw p) ≡ drop (taken (one n e) p) (s .tok p)
       toks (result q) w h k =
           clear-else (y .pw (result q)) (λ j u r t c. let d : into n j ≡ result q = y .pw-inj (into n j) (result q) u w r h c in let z : _≡_ {A = ℕ} 0 1 = cc in omega arith)
-          ∙ R .at-port (result q) w h
+          ∙ R .at-use (result q) w h
       toks (into m k) w h g =
           elim (sameRole m n) [
             | yes d ↦
                 let h′ : plan .source (into n k) ≡ some w = ap (λ (r : Role). plan .source (into r k)) (sym d) ∙ h in
-                ap (λ (r : Role). cleared (y .pw (into r k))) d ∙ clear-port k w h′ ∙ ap (drop (takes e k)) (R .at-port (into n k) w h′)
+                ap (λ (r : Role). cleared (y .pw (into r k))) d ∙ clear-use k w h′ ∙ ap (drop (takes e k)) (R .at-use (into n k) w h′)
                 ∙ sym (ap (λ (r : Role). drop (takeBy (one n e r) k) (s .tok (into r k))) d ∙ ap (λ (r : Option Effect). drop (takeBy r k) (s .tok (into n k))) (one-same n e))
             | no d ↦
                 clear-else (y .pw (into m k)) (λ j u r t c. let x : into n j ≡ into m k = y .pw-inj (into n j) (into m k) u w r h c in let x′ : n ≡ m = cc in d (sym x′))
-                ∙ R .at-port (into m k) w h ∙ sym (ap (λ (r : Option Effect). drop (takeBy r k) (s .tok (into m k))) (one-other n m e d))
+                ∙ R .at-use (into m k) w h ∙ sym (ap (λ (r : Option Effect). drop (takeBy r k) (s .tok (into m k))) (one-other n m e d))
           ]
 
-      ports3 : (p : Use) (w : Wire) → plan .source p ≡ some w → B .wt (y .pw p) ≡ after plan (one n e) s .tok p
-      ports3 p w h =
+      uses3 : (p : Use) (w : Wire) → plan .source p ≡ some w → B .wt (y .pw p) ≡ after plan (one n e) s .tok p
+      uses3 p w h =
           go (given (one n e) (some w)) refl
           ∙ sym (ap (λ (u : Option Wire). put (given (one n e) u) (drop (taken (one n e) p) (s .tok p))) h)
         where
@@ -403,7 +403,7 @@ module _ (plan : Plan) (net : Net) (y : Layout plan net) where
 
           go : (r : Option ℕ) → given (one n e) (some w) ≡ r → B .wt (y .pw p) ≡ put (given (one n e) (some w)) (drop (taken (one n e) p) (s .tok p))
           go none q =
-              same2 (y .pw p) (not-given w (uf .1) (y .pw p) (port-tree p w h) q) ∙ toks p w h q
+              same2 (y .pw p) (not-given w (uf .1) (y .pw p) (use-in-tree p w h) q) ∙ toks p w h q
               ∙ sym (ap (λ (u : Option ℕ). put u (drop (taken (one n e) p) (s .tok p))) q)
           go (some z) q =
               let c = given-cases w z q in
@@ -418,7 +418,7 @@ module _ (plan : Plan) (net : Net) (y : Layout plan net) where
               same2 x (not-given w m x t q)
               ∙ clear-else x
               (λ j u r tk c.
-              let d : u ≡ w = y .tree-apart u w (y .users-full (into n j) u r .1) m x (subst (λ (v : ℕ). Tree v u) c (port-tree (into n j) u r)) t in
+              let d : u ≡ w = y .tree-apart u w (y .users-full (into n j) u r .1) m x (subst (λ (v : ℕ). Tree v u) c (use-in-tree (into n j) u r)) t in
               k (subst (λ (v : ℕ). UseOf v w) c (among-use (into n j) (y .users w) (subst (λ (v : Wire). Among (into n j) (y .users v)) d (y .users-full (into n j) u r .0)))))
               ∙ R .between w m x t k
           go (some z) q =
@@ -428,7 +428,7 @@ module _ (plan : Plan) (net : Net) (y : Layout plan net) where
       shown3 : Shown B (after plan (one n e) s)
       shown3 =
           record {
-            at-port = ports3;
+            at-use = uses3;
             between = between3;
             at-node = λ m rm. b .recs (y .num m) ∙ a .recs (y .num m) ∙ rec1 m rm;
             at-fork = λ w m j h. b .recs j ∙ a .recs j ∙ fork1 w m j h;

@@ -8,12 +8,12 @@
 --
 -- Idea of the stage: what one ready role gives, no other ready one takes, so the effects may be peeled off one by one.
 -- Assumes nothing.
-use mathlib.Core.Path.{_≡_, refl, sym, ap, ap₂, _∙_, subst}
+use mathlib.Core.Path.{_≡_, refl, sym, ap, _∙_, subst}
 use mathlib.Core.Logic.{_≢_, _⊎_, inl, inr}
 use mathlib.Core.Bool.{Bool, true, false}
 use mathlib.Core.Option.{Option, none, some}
-use mathlib.Core.List.{List, [], _∷_, _++_, append-nil, append-assoc}
-use Prim.Native.Nat.{ℕ, zero, suc, _+_, _*_, _≤_, _<_}
+use mathlib.Core.List.{List, [], _∷_, _++_, append-nil}
+use Prim.Native.Nat.{ℕ}
 use native.Mathlib.Omega.{arith}
 use Rattle.step.specs.Kinds.{Input, in0, in1, in2, Output, out0, out1}
 use Rattle.step.specs.Firing.{View, Effect, Program, perform, waits, room, takes, gives}
@@ -193,7 +193,7 @@ module _ (plan : Plan) where
           | no p ↦ inr (ap (λ (z : Option Effect). takeBy z k) (one-other n m e p), ap (λ (z : Option Effect). takeBy z k) (less-other n m E p))
         ]
 
-  -- the words of one port
+  -- the words of one use
   combine : (gl g1 g : Option ℕ) (tl t1 t : Bool) (x : Option ℕ)
       → ((gl ≡ none) × (g1 ≡ g)) ⊎ ((g1 ≡ none) × (gl ≡ g)) → ((tl ≡ false) × (t1 ≡ t)) ⊎ ((t1 ≡ false) × (tl ≡ t))
       → ((y : ℕ) → g1 ≡ some y → t ≡ true → ⊥) → put gl (drop tl (put g1 (drop t1 x))) ≡ put g (drop t x)

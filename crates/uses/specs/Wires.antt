@@ -13,13 +13,12 @@ use mathlib.Core.Logic.{_≢_, _⊎_, inl, inr}
 use mathlib.Core.Bool.{Bool, true, false}
 use mathlib.Core.Option.{Option, none, some}
 use mathlib.Core.List.{List, [], _∷_, _++_, append-assoc}
-use Prim.Native.Nat.{ℕ, zero, suc, _+_, _*_, _≤_, _<_}
+use Prim.Native.Nat.{ℕ}
 use native.Mathlib.Omega.{arith}
 use native.Mathlib.Decide.{ℕ-discrete}
 use borrow.Author.Tests.{eq-eqb, ne-eqb}
 use lib.Dec.{eqb}
-use Rattle.word.specs.Words.{pick}
-use Rattle.step.specs.Kinds.{Input, in0, in1, in2, Output, out0, out1, FORK, DRAIN}
+use Rattle.step.specs.Kinds.{in0, in1, in2, out0, out1, FORK, DRAIN}
 use Rattle.step.specs.Firing.{View, Effect, perform}
 use Rattle.step.specs.Machines.{program, rest}
 use Rattle.step.specs.declared.Record.{Record}
@@ -153,7 +152,7 @@ module _ (net : Net) where
 
     -- what a spread does
     pub record Spreads (x y : ℕ) (ps : List P) (Z U : Tokens) : Type 0 where
-      pub ports : (z : ℕ) → OneOf z ps → U .wt z ≡ some y
+      pub reached : (z : ℕ) → OneOf z ps → U .wt z ≡ some y
       pub root : (OneOf x ps → ⊥) → U .wt x ≡ none
       pub others : (z : ℕ) → z ≢ x → (OneOf z ps → ⊥) → U .wt z ≡ Z .wt z
       pub recs : (i : ℕ) → U .wr i ≡ Z .wr i
@@ -211,17 +210,17 @@ module _ (net : Net) where
     unfolding fire2
     kept-wr i e Z h j = rec-kept i j (e .next) (Z .wr j) (λ c. ap (Z .wr) c ∙ h)
 
-    pub ports-in : {x : ℕ} {ps : List P} (s : Spread x ps) (z : ℕ) → OneOf z ps → Has z (x ∷ below s)
-    ports-in (drained d h) z k = absurd k
-    ports-in (alone p h) z (inl k) = inl (k ∙ h)
-    ports-in (alone p h) z (inr k) = absurd k
-    ports-in (forked p f y1 y2 h e s) z (inl k) = inr (inl (k ∙ e))
-    ports-in (forked p f y1 y2 h e s) z (inr k) = inr (inr (ports-in s z k))
+    pub uses-in : {x : ℕ} {ps : List P} (s : Spread x ps) (z : ℕ) → OneOf z ps → Has z (x ∷ below s)
+    uses-in (drained d h) z k = absurd k
+    uses-in (alone p h) z (inl k) = inl (k ∙ h)
+    uses-in (alone p h) z (inr k) = absurd k
+    uses-in (forked p f y1 y2 h e s) z (inl k) = inr (inl (k ∙ e))
+    uses-in (forked p f y1 y2 h e s) z (inr k) = inr (inr (uses-in s z k))
 
     drain-spreads : (d x y : ℕ) (Z : Tokens) → IsDrain d x → Z .wr d ≡ rest → Spreads x y [] Z (fire2 net d drainEff Z)
     drain-spreads d x y Z h r =
         record {
-          ports = λ z k. absurd k;
+          reached = λ z k. absurd k;
           root = λ _. drain-wt d x x Z h ∙ cut-yes x none (Z .wt x);
           others = λ z n _. drain-wt d x z Z h ∙ cut-no x z none (Z .wt z) (λ c. n (sym c));
           recs = λ i. kept-wr d drainEff Z r i;
@@ -251,17 +250,17 @@ module _ (net : Net) where
         → Z .wt y2 ≡ none → Z .wr f ≡ rest → Spreads y2 y (q ∷ ps) (fire2 net f (forkEff y) Z) U → Spreads x y (p ∷ q ∷ ps) Z U
     fork-spreads {q} {ps} p f x y1 y2 y Z U h k s o b r u =
         record {
-          ports = ports′;
+          reached = reached′;
           root = λ n. u .others x (λ c. o .0 (inr (inl c))) (λ m. n (inr m)) ∙ at-x f x y1 y2 y Z h (λ c. o .0 (inr (inl (sym c)))) (λ c. o .0 (inl (sym c)));
           others = others′;
           recs = λ i. u .recs i ∙ kept-wr f (forkEff y) Z r i;
         }
       where
-        ports′ : (z : ℕ) → (z ≡ pw p) ⊎ OneOf z (q ∷ ps) → U .wt z ≡ some y
-        ports′ z (inl c) =
+        reached′ : (z : ℕ) → (z ≡ pw p) ⊎ OneOf z (q ∷ ps) → U .wt z ≡ some y
+        reached′ z (inl c) =
             let zy : z ≡ y1 = c ∙ k in
-            ap (U .wt) zy ∙ u .others y1 (λ d. o .1 .0 (inl d)) (λ m. o .1 .0 (ports-in s y1 m)) ∙ at-y1 f x y1 y2 y Z h (λ d. o .1 .0 (inl (sym d)))
-        ports′ z (inr c) = u .ports z c
+            ap (U .wt) zy ∙ u .others y1 (λ d. o .1 .0 (inl d)) (λ m. o .1 .0 (uses-in s y1 m)) ∙ at-y1 f x y1 y2 y Z h (λ d. o .1 .0 (inl (sym d)))
+        reached′ z (inr c) = u .reached z c
 
         others′ : (z : ℕ) → z ≢ x → ((z ≡ pw p) ⊎ OneOf z (q ∷ ps) → ⊥) → U .wt z ≡ Z .wt z
         others′ z n m =
@@ -280,7 +279,7 @@ module _ (net : Net) where
       drain-spreads d x y Z h (r d (inl refl)),
       λ w n. ap (λ (l : List ℕ). l ++ []) (on-two (net .output d out0) (net .output d out1) none none w (λ u a b. none-some u (sym (h .leg0) ∙ a)) (λ u a b. none-some u (sym (h .leg1) ∙ a))),
     )
-    spread {x = x} (alone p h) y Z e o b r = ([], Z, refl, record { ports = λ z k. one z k; root = λ n. absurd (n (inl (sym h))); others = λ z n k. refl; recs = λ i. refl }, λ w n. refl)
+    spread {x = x} (alone p h) y Z e o b r = ([], Z, refl, record { reached = λ z k. one z k; root = λ n. absurd (n (inl (sym h))); others = λ z n k. refl; recs = λ i. refl }, λ w n. refl)
       where
         one : (z : ℕ) → (z ≡ pw p) ⊎ ⊥ → Z .wt z ≡ some y
         one z (inl k) = ap (Z .wt) (k ∙ h) ∙ e

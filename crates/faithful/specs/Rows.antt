@@ -1,27 +1,31 @@
--- The reading's steps of one row: a row that does nothing, OP and PICK.
+-- The reading's steps of one row that opens and shuts no loop.
+--
+--   step-plain                INPUT, CONST, NEXT, OUT: nothing fires, and the configuration is that of the next row
+--   step-op, step-pick        OP and PICK: the node fires
+--   Path                      firings that lead to where the reading stands next, with their words on the loops' conditions
+--   token-at                  what waits until row pc is there at pc
+--
 -- Assumes nothing.
-use mathlib.Core.Path.{_≡_, refl, sym, ap, ap₂, _∙_, subst, subst₂}
+use mathlib.Core.Path.{_≡_, refl, sym, ap, ap₂, _∙_, subst}
 use mathlib.Core.Logic.{_≢_, _⊎_, inl, inr}
 use mathlib.Core.Bool.{Bool, true, false}
 use mathlib.Core.Option.{Option, none, some}
 use mathlib.Core.List.{List, [], _∷_, _++_}
-use Prim.Native.Nat.{ℕ, zero, suc, _+_, _*_, _≤_, _<_}
+use Prim.Native.Nat.{ℕ, zero, suc, _≤_, _<_}
 use native.Mathlib.Omega.{arith}
-use native.Mathlib.Decide.{ℕ-discrete, decLe}
+use native.Mathlib.Decide.{ℕ-discrete}
 use lib.Dec.{T, eqb, eqb→eq, eqb-refl}
-use mir.Facts.{yes-eqb}
-use Rattle.word.specs.Words.{condition, update, operate}
-use Rattle.step.specs.Kinds.{Input, in0, in1, in2, Output, out0, out1, STREAM, GATE, CARRY, INVARIANT, SPLIT, OP, PICK}
-use Rattle.step.specs.Firing.{View, Effect, Program, stop, give, ask, perform, gives, takes, waits, room, fillable}
-use Rattle.step.specs.Machines.{program, rest, inPhase, holding, whether}
-use Rattle.step.specs.Locality.{every-program-is-local, asking-inv, giving-inv, taking-gives}
+use Rattle.word.specs.Words.{operate}
+use Rattle.step.specs.Kinds.{Input, in0, in1, in2, Output, out0, out1, PICK}
+use Rattle.step.specs.Firing.{View, Effect, Program, perform, takes, room}
+use Rattle.step.specs.Machines.{program, rest}
 use Rattle.step.specs.declared.Record.{Record}
 use Rattle.table.specs.Bodies.{Row, input, const, op, pick, for, arg, next, end, out, unknown}
 use Rattle.lowered.specs.Roles.{Role, sameRole, opNode, stream, gate, guard, copySplit, copyInvariant, carry, argSplit, Wire, start, output, Use, into, result}
-use Rattle.uses.specs.Machine.{Plan, State, giveBy, takeBy, nextBy, put, drop, listed, given, taken, viewOf, Among, Once, after, one, one-same, one-other, Ready, Steps, steps-append, stage-cover, those}
-use Rattle.faithful.specs.Table.{Table, Slot, val, inner, absent, named, IsFor, wireOf, born, since, slot, slotWire, src, isOp, isStart, Real, progOf, plan}
-use Rattle.faithful.specs.Good.{Inner, Used, Good, Source, wStart, wOp, wFor, wArg, wNxt, wInv, source, ForPort, fStream, fGuard, fSplit, fCarry, When, byOp, byFor, byEnd, byOut, when, Inward, nGate0, nGate1, nSplit, nInv0, nInv1, nCarry, nArg0, nArg1, inward}
-use Rattle.faithful.specs.Gamma.{Env, streamHeld, Live, Inside, Shows, scope, held, Gamma, shows-same, shows-none, shows-some, Rel, before, behind, inside, around, for-not-end, rel, head-row, since-head, since-in, since-own, held-same}
+use Rattle.uses.specs.Machine.{State, giveBy, takeBy, nextBy, put, drop, listed, given, taken, viewOf, after, one, one-same, one-other, Steps}
+use Rattle.faithful.specs.Table.{Table, Slot, val, inner, absent, IsFor, wireOf, since, slot, slotWire, src, isOp, isStart, Real, programOf, plan}
+use Rattle.faithful.specs.Good.{Inner, Good, Source, fromStart, fromOp, fromFor, fromArg, fromNext, fromCopy, source, intoStream, intoGuard, intoSplit, intoCarry, When, byOp, byFor, byEnd, byOut, when, Inward, gateIndex, gateCondition, splitGuard, copyCondition, copySeed, carryCondition, argCondition, argCarried, inward}
+use Rattle.faithful.specs.Gamma.{Env, Inside, Shows, scope, held, Gamma, shows-same, shows-none, shows-some, before, head-row, held-same}
 
 -- env with the word w at row r
 abbrev pub setBy : Bool → ℕ → ℕ → ℕ
@@ -100,8 +104,8 @@ module _ (tb : Table) (g : Good tb) where
       → (Inside tb (scope tb n) pc′ → (v : ℕ) → IsFor tb (scope tb n) → v ≤ scope tb n → env′ v ≡ env v)
       → (Inside tb (scope tb n) pc′ → s′ .own n ≡ held tb n env′) × ((Inside tb (scope tb n) pc′ → ⊥) → s′ .own n ≡ rest)
   recs-same pc pc′ env env′ n rl s s′ G e f h k = (
-    λ i. e ∙ G .recs-in n rl (h i) ∙ sym (held-same tb g n rl env env′ (k i)),
-    λ o. e ∙ G .recs-out n rl (λ i. o (f i)),
+    λ i. e ∙ G .records-in n rl (h i) ∙ sym (held-same tb g n rl env env′ (k i)),
+    λ o. e ∙ G .records-out n rl (λ i. o (f i)),
   )
 
   -- ---- a row that does nothing
@@ -121,12 +125,12 @@ module _ (tb : Table) (g : Good tb) where
   pub since-row : (v B r : ℕ) → since tb v B ≡ suc r → ((v ≡ r) × (tb .home v ≡ B) × (isOp tb (tb .row r) ≡ true)) ⊎ (tb .row r ≡ end)
   since-row v B r h =
       elim (source tb v B) [
-        | wStart _ _ _ z ↦ absurd (omega arith)
-        | wOp _ e q z ↦ let d : v ≡ r = omega arith in inl (d, e, subst (λ (y : ℕ). isOp tb (tb .row y) ≡ true) d q)
-        | wFor _ _ _ z ↦ absurd (omega arith)
-        | wArg i _ _ _ z ↦ absurd (omega arith)
-        | wNxt x _ _ q z ↦ let d : tb .last (tb .loop v) ≡ r = omega arith in inr (subst (λ (y : ℕ). tb .row y ≡ end) d (g .for-end (tb .loop v) (g .nxt-for v x q)))
-        | wInv _ _ z ↦ absurd (omega arith)
+        | fromStart _ _ _ z ↦ absurd (omega arith)
+        | fromOp _ e q z ↦ let d : v ≡ r = omega arith in inl (d, e, subst (λ (y : ℕ). isOp tb (tb .row y) ≡ true) d q)
+        | fromFor _ _ _ z ↦ absurd (omega arith)
+        | fromArg i _ _ _ z ↦ absurd (omega arith)
+        | fromNext x _ _ q z ↦ let d : tb .last (tb .loop v) ≡ r = omega arith in inr (subst (λ (y : ℕ). tb .row y ≡ end) d (g .for-end (tb .loop v) (g .next-for v x q)))
+        | fromCopy _ _ z ↦ absurd (omega arith)
       ]
 
   when-plain : (r : ℕ) → plainRow (tb .row r) ≡ true → r < tb .size → (p : Use) (v B c : ℕ) → When tb p v B c → c ≢ r
@@ -152,7 +156,7 @@ module _ (tb : Table) (g : Good tb) where
   pub step-plain : (r : ℕ) → r < tb .size → plainRow (tb .row r) ≡ true → (env : Env) (s : State) → Gamma tb r env s → Gamma tb (suc r) env s
   step-plain r l h env s G =
       record {
-        vals = λ p v B c q.
+        values = λ p v B c q.
             let u = g .uses p v B c q in
             let nc : c ≢ r = when-plain r h l p v B c (when tb g p v B c q) in
             let b = quiet B (u .body) in
@@ -160,10 +164,10 @@ module _ (tb : Table) (g : Good tb) where
             let b1 : tb .last B ≢ r = b .1 in
             let ns : since tb v B ≢ suc r = λ e. born-not v B e in
             shows-same tb (s .tok p) (s .tok p) v B c r (suc r) env env refl
-            (four (tb .first B) (tb .last B) (since tb v B) c r b0 b1 ns nc) (back (tb .first B) (tb .last B) (since tb v B) c r b0 b1 ns nc) (λ _. refl) (G .vals p v B c q);
-        inns = G .inns;
-        recs-in = λ n rl. both n rl .0;
-        recs-out = λ n rl. both n rl .1;
+            (four (tb .first B) (tb .last B) (since tb v B) c r b0 b1 ns nc) (back (tb .first B) (tb .last B) (since tb v B) c r b0 b1 ns nc) (λ _. refl) (G .values p v B c q);
+        inners = G .inners;
+        records-in = λ n rl. both n rl .0;
+        records-out = λ n rl. both n rl .1;
       }
     where
       quiet : (B : ℕ) → (B ≡ tb .size) ⊎ IsFor tb B → (tb .first B ≢ suc r) × (tb .last B ≢ r)
@@ -216,12 +220,12 @@ module _ (tb : Table) (g : Good tb) where
     other-wire v B h = not-given (wireOf tb v B) (λ o q. go (source tb v B) o q)
       where
         go : Source tb v B → (o : Output) → wireOf tb v B ≡ output (opNode r) o → ⊥
-        go (wStart a b t c) o q = let z : _≡_ {A = ℕ} 0 1 = cc in omega arith
-        go (wOp a b c d) o q = h (cc) b
-        go (wFor a b c d) o q = let z : _≡_ {A = ℕ} 0 1 = cc in omega arith
-        go (wArg i a b c d) o q = let z : _≡_ {A = ℕ} 0 1 = cc in omega arith
-        go (wNxt x a b c d) o q = let z : _≡_ {A = ℕ} 0 1 = cc in omega arith
-        go (wInv a b c) o q = let z : _≡_ {A = ℕ} 0 1 = cc in omega arith
+        go (fromStart a b t c) o q = let z : _≡_ {A = ℕ} 0 1 = cc in omega arith
+        go (fromOp a b c d) o q = h (cc) b
+        go (fromFor a b c d) o q = let z : _≡_ {A = ℕ} 0 1 = cc in omega arith
+        go (fromArg i a b c d) o q = let z : _≡_ {A = ℕ} 0 1 = cc in omega arith
+        go (fromNext x a b c d) o q = let z : _≡_ {A = ℕ} 0 1 = cc in omega arith
+        go (fromCopy a b c) o q = let z : _≡_ {A = ℕ} 0 1 = cc in omega arith
 
     starts : (d : Row) → isStart tb d ≡ true → isOp tb d ≡ true → _≡_ {A = ℕ} 0 1
     starts input a b = cc
@@ -244,15 +248,15 @@ module _ (tb : Table) (g : Good tb) where
         isop′ = subst (λ (z : ℕ). isOp tb (tb .row z) ≡ true) (sym d) isop
 
         go : Source tb v B → (given E (some (wireOf tb v B)) ≡ some w) × (since tb v B ≡ suc r)
-        go (wStart a b t c) = let z : _≡_ {A = ℕ} 0 1 = starts (tb .row v) t isop′ in absurd (omega arith)
-        go (wOp a b c z) =
+        go (fromStart a b t c) = let z : _≡_ {A = ℕ} 0 1 = starts (tb .row v) t isop′ in absurd (omega arith)
+        go (fromOp a b c z) =
             (ap (λ (y : Wire). given E (some y)) (a ∙ ap (λ (y : ℕ). output (opNode y) out0) d) ∙ ap (λ (y : Option Effect). giveBy y out0) (one-same (opNode r) e) ∙ g0, z ∙ ap suc d)
-        go (wFor a b c z) = let k = c .5 in let z : _≡_ {A = ℕ} 0 1 = cc in absurd (omega arith)
-        go (wArg i a b c z) = let z : _≡_ {A = ℕ} 0 1 = cc in absurd (omega arith)
-        go (wNxt x a b c z) = let z : _≡_ {A = ℕ} 0 1 = cc in absurd (omega arith)
-        go (wInv a b z) = absurd (b h)
+        go (fromFor a b c z) = let k = c .5 in let z : _≡_ {A = ℕ} 0 1 = cc in absurd (omega arith)
+        go (fromArg i a b c z) = let z : _≡_ {A = ℕ} 0 1 = cc in absurd (omega arith)
+        go (fromNext x a b c z) = let z : _≡_ {A = ℕ} 0 1 = cc in absurd (omega arith)
+        go (fromCopy a b z) = absurd (b h)
 
-    -- a port of another node
+    -- a use of another node
     kept : (p : Use) (v B c : ℕ) → slot tb p ≡ val v B c → c ≢ r → ((k : Input) → p ≡ into (opNode r) k → ⊥) → Shows tb (after (plan tb) E s .tok p) v B c (suc r) (setTo r w env)
     kept p v B c q nc np =
         let u = g .uses p v B c q in
@@ -278,7 +282,7 @@ module _ (tb : Table) (g : Good tb) where
                 let lt = g .in-before B v (u .away h) in
                 let ff = g .for-first B f in
                 shows-none tb (after (plan tb) E s .tok p) v B c (suc r) (setTo r w env)
-                (same ∙ ap₂ put (other-wire v B (λ _ y. h y)) (G .vals p v B c q .off (λ l. let l0 = l .0 in omega arith)))
+                (same ∙ ap₂ put (other-wire v B (λ _ y. h y)) (G .values p v B c q .off (λ l. let l0 = l .0 in omega arith)))
                 (λ l. let l0 = l .0 in omega arith)
           ]
           | no d ↦
@@ -286,13 +290,13 @@ module _ (tb : Table) (g : Good tb) where
               shows-same tb (s .tok p) (after (plan tb) E s .tok p) v B c r (suc r) env (setTo r w env)
               (same ∙ ap (λ (y : Option ℕ). put y (s .tok p)) (other-wire v B (λ y _. d y)))
               (four (tb .first B) (tb .last B) (since tb v B) c r b0 b1 ns nc) (back (tb .first B) (tb .last B) (since tb v B) c r b0 b1 ns nc)
-              (λ _. set-other r w env v d) (G .vals p v B c q)
+              (λ _. set-other r w env v d) (G .values p v B c q)
         ]
       where
         born-not : (v B : ℕ) → v ≢ r → since tb v B ≡ suc r → ⊥
         born-not v B d y = elim (since-row v B r y) [ inl z ↦ d (z .0) | inr z ↦ no-end z ]
 
-    -- its own port
+    -- its own use
     took : (p : Use) (k : Input) (v B c : ℕ) → slot tb p ≡ val v B c → p ≡ into (opNode r) k → c ≡ r → Shows tb (after (plan tb) E s .tok p) v B c (suc r) (setTo r w env)
     unfolding E
     took p k v B c q d h =
@@ -313,10 +317,10 @@ module _ (tb : Table) (g : Good tb) where
               | yes y ↦ took p k v B c q (d ∙ ap (λ (z : ℕ). into (opNode z) k) y) y
               | no y ↦ kept p v B c q y (λ k′ d′. y (cc))
             ]
-        go (byFor f (fStream k d) h) = kept p v B c q (λ y. no-for (subst (IsFor tb) y f)) (λ k′ d′. let z : _≡_ {A = ℕ} 0 1 = cc in omega arith)
-        go (byFor f (fGuard k d) h) = kept p v B c q (λ y. no-for (subst (IsFor tb) y f)) (λ k′ d′. let z : _≡_ {A = ℕ} 0 1 = cc in omega arith)
-        go (byFor f (fSplit x d _) h) = kept p v B c q (λ y. no-for (subst (IsFor tb) y f)) (λ k′ d′. let z : _≡_ {A = ℕ} 0 1 = cc in omega arith)
-        go (byFor f (fCarry a i d _ _) h) = kept p v B c q (λ y. no-for (subst (IsFor tb) y f)) (λ k′ d′. let z : _≡_ {A = ℕ} 0 1 = cc in omega arith)
+        go (byFor f (intoStream k d) h) = kept p v B c q (λ y. no-for (subst (IsFor tb) y f)) (λ k′ d′. let z : _≡_ {A = ℕ} 0 1 = cc in omega arith)
+        go (byFor f (intoGuard k d) h) = kept p v B c q (λ y. no-for (subst (IsFor tb) y f)) (λ k′ d′. let z : _≡_ {A = ℕ} 0 1 = cc in omega arith)
+        go (byFor f (intoSplit x d _) h) = kept p v B c q (λ y. no-for (subst (IsFor tb) y f)) (λ k′ d′. let z : _≡_ {A = ℕ} 0 1 = cc in omega arith)
+        go (byFor f (intoCarry a i d _ _) h) = kept p v B c q (λ y. no-for (subst (IsFor tb) y f)) (λ k′ d′. let z : _≡_ {A = ℕ} 0 1 = cc in omega arith)
         go (byEnd a i d h l _ _) =
             kept p v B c q (λ y. no-end (ap (tb .row) (sym y ∙ l) ∙ g .for-end (tb .loop a) (g .arg-for a i h))) (λ k′ d′. let z : _≡_ {A = ℕ} 0 1 = cc in omega arith)
         go (byOut x d l _) = kept p v B c q (λ y. let z = g .op-size r isop in omega arith) (λ k′ d′. let z : _≡_ {A = ℕ} 0 1 = cc in omega arith)
@@ -324,17 +328,17 @@ module _ (tb : Table) (g : Good tb) where
     inns-op : (p : Use) (u : Wire) → slot tb p ≡ inner u → after (plan tb) E s .tok p ≡ none
     inns-op p u q =
         ap (λ (y : Slot). put (given E (slotWire tb y)) (drop (taken E p) (s .tok p))) q
-        ∙ put-drop-none (given E (some u)) (taken E p) (s .tok p) (not-given u (λ o h. go (inward tb p u q) o h)) (G .inns p u q)
+        ∙ put-drop-none (given E (some u)) (taken E p) (s .tok p) (not-given u (λ o h. go (inward tb p u q) o h)) (G .inners p u q)
       where
         go : Inward tb p u → (o : Output) → u ≡ output (opNode r) o → ⊥
-        go (nGate0 L a b fr) o h = let z : _≡_ {A = ℕ} 0 1 = cc in omega arith
-        go (nGate1 L a b fr) o h = let z : _≡_ {A = ℕ} 0 1 = cc in omega arith
-        go (nSplit L x a b c) o h = let z : _≡_ {A = ℕ} 0 1 = cc in omega arith
-        go (nInv0 L x a b c) o h = let z : _≡_ {A = ℕ} 0 1 = cc in omega arith
-        go (nInv1 L x a b c) o h = let z : _≡_ {A = ℕ} 0 1 = cc in omega arith
-        go (nCarry x i a b c) o h = let z : _≡_ {A = ℕ} 0 1 = cc in omega arith
-        go (nArg0 x a b c) o h = let z : _≡_ {A = ℕ} 0 1 = cc in omega arith
-        go (nArg1 x a b c) o h = let z : _≡_ {A = ℕ} 0 1 = cc in omega arith
+        go (gateIndex L a b fr) o h = let z : _≡_ {A = ℕ} 0 1 = cc in omega arith
+        go (gateCondition L a b fr) o h = let z : _≡_ {A = ℕ} 0 1 = cc in omega arith
+        go (splitGuard L x a b c) o h = let z : _≡_ {A = ℕ} 0 1 = cc in omega arith
+        go (copyCondition L x a b c) o h = let z : _≡_ {A = ℕ} 0 1 = cc in omega arith
+        go (copySeed L x a b c) o h = let z : _≡_ {A = ℕ} 0 1 = cc in omega arith
+        go (carryCondition x i a b c) o h = let z : _≡_ {A = ℕ} 0 1 = cc in omega arith
+        go (argCondition x a b c) o h = let z : _≡_ {A = ℕ} 0 1 = cc in omega arith
+        go (argCarried x a b c) o h = let z : _≡_ {A = ℕ} 0 1 = cc in omega arith
 
     recs-op : (n : Role) → Real tb n → (Inside tb (scope tb n) (suc r) → after (plan tb) E s .own n ≡ held tb n (setTo r w env))
         × ((Inside tb (scope tb n) (suc r) → ⊥) → after (plan tb) E s .own n ≡ rest)
@@ -354,9 +358,9 @@ module _ (tb : Table) (g : Good tb) where
         ]
 
     pub gamma-op : Gamma tb (suc r) (setTo r w env) (after (plan tb) E s)
-    gamma-op = record { vals = vals-op; inns = inns-op; recs-in = λ n rl. recs-op n rl .0; recs-out = λ n rl. recs-op n rl .1 }
+    gamma-op = record { values = vals-op; inners = inns-op; records-in = λ n rl. recs-op n rl .0; records-out = λ n rl. recs-op n rl .1 }
 
-  -- what reads wire w is a value's port, or an inner one
+  -- what reads wire w is a value's use, or an inner one
   pub src-cases : (p : Use) (w : Wire) → src tb p ≡ some w
       → ((v : ℕ) × (B : ℕ) × (c : ℕ) × (slot tb p ≡ val v B c) × (wireOf tb v B ≡ w)) ⊎ (slot tb p ≡ inner w)
   src-cases p w h = go (slot tb p) refl h
@@ -373,22 +377,22 @@ module _ (tb : Table) (g : Good tb) where
       let a : tb .first B ≤ pc = u .place .low in
       let b : pc ≤ tb .last B = u .place .high in
       let c : since tb v B ≤ pc = u .named-before in
-      G .vals p v B pc q .on (a, b, c, omega arith)
+      G .values p v B pc q .on (a, b, c, omega arith)
 
   room-op : (r : ℕ) → isOp tb (tb .row r) ≡ true → (env : Env) (s : State) → Gamma tb r env s → (p : Use) (o : Output) → src tb p ≡ some (output (opNode r) o) → s .tok p ≡ none
   room-op r isop env s G p o h =
       elim (src-cases p (output (opNode r) o) h) [
         | inl q ↦ go (q .0) (q .1) (q .2) (q .3) (q .4) (source tb (q .0) (q .1))
-        | inr q ↦ G .inns p (output (opNode r) o) q
+        | inr q ↦ G .inners p (output (opNode r) o) q
       ]
     where
       go : (v B c : ℕ) → slot tb p ≡ val v B c → wireOf tb v B ≡ output (opNode r) o → Source tb v B → s .tok p ≡ none
-      go v B c q w (wStart a b t z) = let z : _≡_ {A = ℕ} 0 1 = cc in absurd (omega arith)
-      go v B c q w (wOp a b t z) = let d : v ≡ r = cc in G .vals p v B c q .off (λ l. let k = l .2 in omega arith)
-      go v B c q w (wFor a b t z) = let z : _≡_ {A = ℕ} 0 1 = cc in absurd (omega arith)
-      go v B c q w (wArg i a b t z) = let z : _≡_ {A = ℕ} 0 1 = cc in absurd (omega arith)
-      go v B c q w (wNxt x a b t z) = let z : _≡_ {A = ℕ} 0 1 = cc in absurd (omega arith)
-      go v B c q w (wInv a b z) = let z : _≡_ {A = ℕ} 0 1 = cc in absurd (omega arith)
+      go v B c q w (fromStart a b t z) = let z : _≡_ {A = ℕ} 0 1 = cc in absurd (omega arith)
+      go v B c q w (fromOp a b t z) = let d : v ≡ r = cc in G .values p v B c q .off (λ l. let k = l .2 in omega arith)
+      go v B c q w (fromFor a b t z) = let z : _≡_ {A = ℕ} 0 1 = cc in absurd (omega arith)
+      go v B c q w (fromArg i a b t z) = let z : _≡_ {A = ℕ} 0 1 = cc in absurd (omega arith)
+      go v B c q w (fromNext x a b t z) = let z : _≡_ {A = ℕ} 0 1 = cc in absurd (omega arith)
+      go v B c q w (fromCopy a b z) = let z : _≡_ {A = ℕ} 0 1 = cc in absurd (omega arith)
 
   -- from s the use machine comes to where the reading stands at (pc′, env′), with these words on each loop's raw and gated condition
   abbrev pub Path : (env : Env) (s : State) (pc′ : ℕ) (env′ : Env) (raw gated : ℕ → List ℕ) → Type 0
@@ -406,7 +410,7 @@ module _ (tb : Table) (g : Good tb) where
   op-rests : (r : ℕ) → isOp tb (tb .row r) ≡ true → (env : Env) (s : State) → Gamma tb r env s → s .own (opNode r) ≡ rest
   op-rests r isop env s G =
       let l = g .op-size r isop in
-      G .recs-in (opNode r) (l, isop) (let a = g .outer-first in omega arith, let b = g .outer-last in omega arith)
+      G .records-in (opNode r) (l, isop) (let a = g .outer-first in omega arith, let b = g .outer-last in omega arith)
 
   pub step-op : (r c x y : ℕ) → tb .row r ≡ op c x y → (env : Env) (s : State) → Gamma tb r env s → Path env s (suc r) (setTo r (operate c (env x) (env y)) env) silent silent
   unfolding E
@@ -422,7 +426,7 @@ module _ (tb : Table) (g : Good tb) where
           e,
           record {
             real = (g .op-size r isop, isop);
-            runs = runs-by (progOf tb (opNode r)) s (opNode r) (some (env x)) (some (env y)) (s .tok (into (opNode r) in2)) rest e t0 t1 refl (op-rests r isop env s G) (rw q);
+            runs = runs-by (programOf tb (opNode r)) s (opNode r) (some (env x)) (some (env y)) (s .tok (into (opNode r) in2)) rest e t0 t1 refl (op-rests r isop env s G) (rw q);
             room = λ p o z h k. room-op r isop env s G p o h;
           },
           refl,
@@ -452,7 +456,7 @@ module _ (tb : Table) (g : Good tb) where
           e,
           record {
             real = (g .op-size r isop, isop);
-            runs = runs-by (progOf tb (opNode r)) s (opNode r) (some (env f)) (some (env x)) (some (env y)) rest e t0 t1 t2 (op-rests r isop env s G) (rw q (picks (env f) (env x) (env y)));
+            runs = runs-by (programOf tb (opNode r)) s (opNode r) (some (env f)) (some (env x)) (some (env y)) rest e t0 t1 t2 (op-rests r isop env s G) (rw q (picks (env f) (env x) (env y)));
             room = λ p o z h k. room-op r isop env s G p o h;
           },
           refl,

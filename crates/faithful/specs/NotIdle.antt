@@ -1,0 +1,93 @@
+-- None of this is idle: the register's tables pass the check, their readings end, and the theorems speak of their graphs.
+--
+--   the-sum-of-five-means-ten         P10: every order that rests leaves 10, and five ones and a zero have passed
+--   no-turn-leaves-nothing            P11: every order that rests leaves 0; one zero has passed raw, nothing gated, and nothing stays behind
+--   the-inner-loop-opens-anew         P12: the result is 5; the inner loop's openings have 0, 1 and 2 turns
+--   a-zero-step-is-answered           the sum table with step 0: every order that rests answers ZERO STEP
+--
+-- Assumes nothing.
+use mathlib.Core.Path.{_≡_, refl, ap, _∙_}
+use mathlib.Core.Bool.{Bool, true, cond}
+use mathlib.Core.Option.{some}
+use mathlib.Core.List.{List, [], _∷_}
+use Prim.Native.Nat.{ℕ}
+use lib.Dec.{eqb}
+use Rattle.graph.specs.Graph.{resultAt}
+use Rattle.state.specs.State.{tokenAt}
+use Rattle.state.specs.Run.{COMPLETE, ZERO-STEP, outcome}
+use Rattle.confluence.specs.Statements.{Fires, AtRest, putOnWire}
+use Rattle.table.specs.Rows.{size, usedWords, operandCount, firstOperand, sortOf, wantedSort}
+use Rattle.table.specs.Scan.{after, stackAt, bodyOf, readStack, reads, homeBy, home, bodyOpen, endPassed, visible}
+use Rattle.table.specs.Check.{Refusal, answer, tableRefusal, lengthRight, kindRight, zerosFrom, spareRight, codeRight, follows, stands, placeRight, depthRight, namesFrom, namesRight, typesFrom, typesRight, endRight, rowRefusal, rowsFrom}
+use Rattle.table.specs.Cases.{sumTable, sumBy, p12Table, sum-passes, p12-passes}
+use Rattle.reading.specs.Cases.{p10-reads-10, p11-reads-0, p12-reads-5, zero-step-at-row-3}
+use Rattle.lowered.specs.Lower.{loweredWords}
+use Rattle.lowered.specs.Room.{ROOM, hasRoom, refusedBy, checkAnswer}
+use Rattle.lowered.specs.Cases.{lowering-computes}
+use Rattle.faithful.specs.Conditions.{turnsOf}
+use Rattle.faithful.specs.Statements.{loadedTable, rawWire, gatedWire, lowered-table-means-its-reading, zero-step-is-never-complete}
+
+-- a table that passes 1 to 9 and has room is checked
+checked : (n : ℕ) (R : Refusal) (b : Bool) → R ≡ answer 0 0 → b ≡ true → cond (eqb (R .number) 0) (cond b (answer 0 0) (answer ROOM n)) R .number ≡ 0
+checked n R b h k = rw (h, k)
+
+sum-has-room : hasRoom sumTable ≡ true
+unfolding hasRoom lowering-computes
+sum-has-room = refl
+
+pub sum-is-checked : checkAnswer sumTable .number ≡ 0
+unfolding checkAnswer refusedBy
+sum-is-checked = checked (size sumTable) (tableRefusal sumTable) (hasRoom sumTable) sum-passes sum-has-room
+
+p12-has-room : hasRoom p12Table ≡ true
+unfolding hasRoom lowering-computes
+p12-has-room = refl
+
+pub p12-is-checked : checkAnswer p12Table .number ≡ 0
+unfolding checkAnswer refusedBy
+p12-is-checked = checked (size p12Table) (tableRefusal p12Table) (hasRoom p12Table) p12-passes p12-has-room
+
+-- what an order that rests leaves on the result wire, and has put on the conditions of the loop at row L
+pub record Leaves (t inputs : List ℕ) (L word : ℕ) (raw gated : List ℕ) (order u : List ℕ) : Type 0 where
+  pub leaves : tokenAt u (resultAt (loweredWords t) 0) ≡ some word
+  pub told-raw : putOnWire (loweredWords t) order (loadedTable t inputs) (rawWire t L) ≡ raw
+  pub told-gated : putOnWire (loweredWords t) order (loadedTable t inputs) (gatedWire t L) ≡ gated
+  pub completes : outcome (loweredWords t) u .answer ≡ COMPLETE
+
+pub the-sum-of-five-means-ten : (order u : List ℕ) → Fires (loweredWords sumTable) order (loadedTable sumTable (5 ∷ [])) u → AtRest (loweredWords sumTable) u
+    → Leaves sumTable (5 ∷ []) 3 10 (1 ∷ 1 ∷ 1 ∷ 1 ∷ 1 ∷ 0 ∷ []) (1 ∷ 1 ∷ 1 ∷ 1 ∷ 0 ∷ []) order u
+unfolding turnsOf
+the-sum-of-five-means-ten order u f h =
+    let e = lowered-table-means-its-reading sumTable sum-is-checked (5 ∷ []) (10 ∷ []) _ p10-reads-10 .1 order u f .ends h in
+    record { leaves = e .state .results-hold 0 10 refl; told-raw = e .conditions .raw 3 refl; told-gated = e .conditions .gated 3 refl; completes = e .answer }
+
+pub no-turn-leaves-nothing : (order u : List ℕ) → Fires (loweredWords sumTable) order (loadedTable sumTable (0 ∷ [])) u → AtRest (loweredWords sumTable) u
+    → Leaves sumTable (0 ∷ []) 3 0 (0 ∷ []) [] order u
+unfolding turnsOf
+no-turn-leaves-nothing order u f h =
+    let e = lowered-table-means-its-reading sumTable sum-is-checked (0 ∷ []) (0 ∷ []) _ p11-reads-0 .1 order u f .ends h in
+    record { leaves = e .state .results-hold 0 0 refl; told-raw = e .conditions .raw 3 refl; told-gated = e .conditions .gated 3 refl; completes = e .answer }
+
+pub the-inner-loop-opens-anew : (order u : List ℕ) → Fires (loweredWords p12Table) order (loadedTable p12Table []) u → AtRest (loweredWords p12Table) u
+    → Leaves p12Table [] 5 5 (0 ∷ 1 ∷ 0 ∷ 1 ∷ 1 ∷ 0 ∷ []) (0 ∷ 1 ∷ 0 ∷ []) order u
+unfolding turnsOf
+the-inner-loop-opens-anew order u f h =
+    let e = lowered-table-means-its-reading p12Table p12-is-checked [] (5 ∷ []) _ p12-reads-5 .1 order u f .ends h in
+    record { leaves = e .state .results-hold 0 5 refl; told-raw = e .conditions .raw 5 refl; told-gated = e .conditions .gated 5 refl; completes = e .answer }
+
+-- the sum table with step 0
+zero-passes : tableRefusal (sumBy 0) ≡ answer 0 0
+unfolding usedWords operandCount firstOperand sortOf wantedSort after stackAt bodyOf readStack reads homeBy home bodyOpen endPassed visible lengthRight kindRight zerosFrom spareRight codeRight follows stands placeRight depthRight namesFrom namesRight typesFrom typesRight endRight rowRefusal rowsFrom tableRefusal
+zero-passes = refl
+
+zero-has-room : hasRoom (sumBy 0) ≡ true
+unfolding hasRoom lowering-computes
+zero-has-room = refl
+
+zero-is-checked : checkAnswer (sumBy 0) .number ≡ 0
+unfolding checkAnswer refusedBy
+zero-is-checked = checked (size (sumBy 0)) (tableRefusal (sumBy 0)) (hasRoom (sumBy 0)) zero-passes zero-has-room
+
+pub a-zero-step-is-answered : (order u : List ℕ) → Fires (loweredWords (sumBy 0)) order (loadedTable (sumBy 0) (5 ∷ [])) u → AtRest (loweredWords (sumBy 0)) u
+    → outcome (loweredWords (sumBy 0)) u .answer ≡ ZERO-STEP
+a-zero-step-is-answered order u f h = zero-step-is-never-complete (sumBy 0) zero-is-checked (5 ∷ []) 3 [] zero-step-at-row-3 order u f h
