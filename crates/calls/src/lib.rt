@@ -28,20 +28,6 @@ const RUN: u32 = 6;
 // What lent words hold before a call.
 const BEFORE: u32 = 7;
 
-fn same(a: &[u8], b: &[u8]) -> bool {
-    if a.len() != b.len() {
-        return false;
-    }
-    let mut i: usize = 0;
-    while i < a.len() {
-        if a[i] != b[i] {
-            return false;
-        }
-        i += 1;
-    }
-    true
-}
-
 // Where the name that a line starts with ends.
 fn name_end(line: &[u8]) -> usize
     ensures { λ r. ⌜ r ≤ length (now (line .entry)) ⌝ }
@@ -58,16 +44,16 @@ fn name_end(line: &[u8]) -> usize
 
 // The call of a name, or 0.
 fn call_of(name: &[u8]) -> u32 {
-    if same(name, b"check_graph") {
+    if text::same(name, b"check_graph") {
         return CHECK_GRAPH;
     }
-    if same(name, b"load") {
+    if text::same(name, b"load") {
         return LOAD;
     }
-    if same(name, b"fire") {
+    if text::same(name, b"fire") {
         return FIRE;
     }
-    if same(name, b"run") {
+    if text::same(name, b"run") {
         return RUN;
     }
     0
@@ -87,16 +73,9 @@ fn reason(problem: u32, out: &mut [u8], at: usize) -> usize
     requires { ⌜ at ≤ length (now out) ⌝ }
     ensures { λ r. ⌜ r ≤ length (now (out .entry)) ⌝ }
 {
-    match problem {
-        text::LETTER => text::put(out, at, b"a letter that is no digit, space or semicolon"),
-        text::LARGE => text::put(out, at, b"a number that is too large"),
-        text::MANY => text::put(out, at, b"more words in a list than there is room for"),
-        text::SINGLE => text::put(out, at, b"one number belongs before the first semicolon"),
-        NAME => text::put(out, at, b"no call has this name"),
-        LISTS => text::put(out, at, b"this call has another number of semicolons"),
-        LENT => text::put(out, at, b"more words are to be lent than there are"),
-        _ => text::put(out, at, b"the line is too long"),
-    }
+    let reasons =
+        b"none;a letter that is no digit, space or semicolon;a number that is too large;more words in a list than there is room for;one number belongs before the first semicolon;no call has this name;this call has another number of semicolons;more words are to be lent than there are;the line is too long";
+    text::put(out, at, text::part(reasons, problem as usize))
 }
 
 fn error(problem: u32, out: &mut [u8]) -> usize
