@@ -28,6 +28,9 @@ pub fn put_kind(out: &mut [u8], at: usize, kind: u32) -> usize
     requires { ⌜ at ≤ length (now out) ⌝ }
     ensures { λ r. ⌜ r ≤ length (now (out .entry)) ⌝ }
 {
+    if 8 < kind {
+        return text::put(out, at, b"no kind");
+    }
     let names = b"INPUT;CONST;OP;PICK;FOR;ARG;NEXT;END;OUT";
     text::put(out, at, text::part(names, kind as usize))
 }
