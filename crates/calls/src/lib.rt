@@ -28,20 +28,6 @@ const RUN: u32 = 6;
 // What lent words hold before a call.
 const BEFORE: u32 = 7;
 
-fn same(a: &[u8], b: &[u8]) -> bool {
-    if a.len() != b.len() {
-        return false;
-    }
-    let mut i: usize = 0;
-    while i < a.len() {
-        if a[i] != b[i] {
-            return false;
-        }
-        i += 1;
-    }
-    true
-}
-
 // Where the name that a line starts with ends.
 fn name_end(line: &[u8]) -> usize
     ensures { λ r. ⌜ r ≤ length (now (line .entry)) ⌝ }
@@ -58,16 +44,16 @@ fn name_end(line: &[u8]) -> usize
 
 // The call of a name, or 0.
 fn call_of(name: &[u8]) -> u32 {
-    if same(name, b"check_graph") {
+    if text::same(name, b"check_graph") {
         return CHECK_GRAPH;
     }
-    if same(name, b"load") {
+    if text::same(name, b"load") {
         return LOAD;
     }
-    if same(name, b"fire") {
+    if text::same(name, b"fire") {
         return FIRE;
     }
-    if same(name, b"run") {
+    if text::same(name, b"run") {
         return RUN;
     }
     0
@@ -87,16 +73,9 @@ fn reason(problem: u32, out: &mut [u8], at: usize) -> usize
     requires { ⌜ at ≤ length (now out) ⌝ }
     ensures { λ r. ⌜ r ≤ length (now (out .entry)) ⌝ }
 {
-    match problem {
-        text::LETTER => text::put(out, at, b"a letter that is no digit, space or semicolon"),
-        text::LARGE => text::put(out, at, b"a number that is too large"),
-        text::MANY => text::put(out, at, b"more words in a list than there is room for"),
-        text::SINGLE => text::put(out, at, b"one number belongs before the first semicolon"),
-        NAME => text::put(out, at, b"no call has this name"),
-        LISTS => text::put(out, at, b"this call has another number of semicolons"),
-        LENT => text::put(out, at, b"more words are to be lent than there are"),
-        _ => text::put(out, at, b"the line is too long"),
-    }
+    let reasons =
+        b"none;a letter that is no digit, space or semicolon;a number that is too large;more words in a list than there is room for;one number belongs before the first semicolon;no call has this name;this call has another number of semicolons;more words are to be lent than there are;the line is too long";
+    text::put(out, at, text::part(reasons, problem as usize))
 }
 
 fn error(problem: u32, out: &mut [u8]) -> usize
@@ -313,14 +292,18 @@ fn line_of(
     }
 }
 
+// The words that a call's lists go to.
+fn call_line(call: u32, rest: &[u8], out: &mut [u8]) -> usize
+    ensures { λ r. ⌜ r ≤ length (now (out .entry)) ⌝ }
+{
+    let mut first = [0u32; 65536];
+    let mut second = [0u32; 65536];
+    let mut third = [0u32; 65536];
+    line_of(call, rest, &mut first, &mut second, &mut third, out)
+}
+
 // The answer to a line, put into the lent letters; its length.
-pub fn answer(
-    line: &[u8],
-    first: &mut [u32],
-    second: &mut [u32],
-    third: &mut [u32],
-    out: &mut [u8],
-) -> usize
+pub fn answer(line: &[u8], out: &mut [u8]) -> usize
     ensures { λ r. ⌜ r ≤ length (now (out .entry)) ⌝ }
 {
     let e = name_end(line);
@@ -332,7 +315,7 @@ pub fn answer(
     if text::semicolons(rest) != lists_of(call) {
         return error(LISTS, out);
     }
-    line_of(call, rest, first, second, third, out)
+    call_line(call, rest, out)
 }
 
 // Lines from a descriptor.
@@ -361,14 +344,7 @@ fn gather(text: &mut [u8], line: Line, b: u8) -> Line
     }
 }
 
-fn reply(
-    line: Line,
-    text: &[u8],
-    first: &mut [u32],
-    second: &mut [u32],
-    third: &mut [u32],
-    out: &mut [u8],
-) -> usize
+fn reply(line: Line, text: &[u8], out: &mut [u8]) -> usize
     requires { ⌜ line .count ≤ length (now text) ⌝ }
     ensures { λ r. ⌜ r ≤ length (now (out .entry)) ⌝ }
 {
@@ -376,41 +352,24 @@ fn reply(
         return error(LONG, out);
     }
     let n = line.count;
-    answer(&text[..n], first, second, third, out)
+    answer(&text[..n], out)
 }
 
 // Answers a line, and writes the answer.
-fn tell(
-    to: i32,
-    line: Line,
-    text: &[u8],
-    first: &mut [u32],
-    second: &mut [u32],
-    third: &mut [u32],
-    out: &mut [u8],
-)
+fn tell(to: i32, line: Line, text: &[u8], out: &mut [u8])
     requires { ⌜ line .count ≤ length (now text) ⌝ }
 {
-    let n = reply(line, text, first, second, third, out);
+    let n = reply(line, text, out);
     let m = text::put_letter(out, n, b'\n');
     io::write_all(to, &out[..m]);
 }
 
-fn take(
-    b: u8,
-    to: i32,
-    line: Line,
-    text: &mut [u8],
-    first: &mut [u32],
-    second: &mut [u32],
-    third: &mut [u32],
-    out: &mut [u8],
-) -> Line
+fn take(b: u8, to: i32, line: Line, text: &mut [u8], out: &mut [u8]) -> Line
     requires { ⌜ line .count ≤ length (now text) ⌝ }
     ensures { λ r. ⌜ r .count ≤ length (now (text .entry)) ⌝ }
 {
     if b == b'\n' {
-        tell(to, line, text, first, second, third, out);
+        tell(to, line, text, out);
         return Line {
             count: 0,
             long: false,
@@ -419,42 +378,25 @@ fn take(
     gather(text, line, b)
 }
 
-fn feed(
-    chunk: &[u8],
-    to: i32,
-    given: Line,
-    text: &mut [u8],
-    first: &mut [u32],
-    second: &mut [u32],
-    third: &mut [u32],
-    out: &mut [u8],
-) -> Line
+fn feed(chunk: &[u8], to: i32, given: Line, text: &mut [u8], out: &mut [u8]) -> Line
     requires { ⌜ given .count ≤ length (now text) ⌝ }
     ensures { λ r. ⌜ r .count ≤ length (now (text .entry)) ⌝ }
 {
     let mut line = given;
     let mut i: usize = 0;
     while i < chunk.len() {
-        line = take(chunk[i], to, line, text, first, second, third, out);
+        line = take(chunk[i], to, line, text, out);
         i += 1;
     }
     line
 }
 
 // A last line that has no end is a line too.
-fn close(
-    to: i32,
-    line: Line,
-    text: &[u8],
-    first: &mut [u32],
-    second: &mut [u32],
-    third: &mut [u32],
-    out: &mut [u8],
-)
+fn close(to: i32, line: Line, text: &[u8], out: &mut [u8])
     requires { ⌜ line .count ≤ length (now text) ⌝ }
 {
     if 0 < line.count {
-        tell(to, line, text, first, second, third, out);
+        tell(to, line, text, out);
     }
 }
 
@@ -472,17 +414,7 @@ struct Read {
     ended: bool,
 }
 
-fn turn(
-    from: i32,
-    to: i32,
-    line: Line,
-    chunk: &mut [u8],
-    text: &mut [u8],
-    first: &mut [u32],
-    second: &mut [u32],
-    third: &mut [u32],
-    out: &mut [u8],
-) -> Read
+fn turn(from: i32, to: i32, line: Line, chunk: &mut [u8], text: &mut [u8], out: &mut [u8]) -> Read
     requires { ⌜ line .count ≤ length (now text) ⌝ }
     ensures { λ r. ⌜ r .line .count ≤ length (now (text .entry)) ⌝ }
 {
@@ -490,7 +422,7 @@ fn turn(
     if n == 0 {
         return Read { line, ended: true };
     }
-    let after = feed(&chunk[..n], to, line, text, first, second, third, out);
+    let after = feed(&chunk[..n], to, line, text, out);
     Read {
         line: after,
         ended: false,
@@ -508,45 +440,24 @@ fn fewer(turns: u64, ended: bool) -> u64
     turns - 1
 }
 
-fn converse(
-    from: i32,
-    to: i32,
-    chunk: &mut [u8],
-    text: &mut [u8],
-    first: &mut [u32],
-    second: &mut [u32],
-    third: &mut [u32],
-    out: &mut [u8],
-) {
+fn converse(from: i32, to: i32, chunk: &mut [u8], text: &mut [u8], out: &mut [u8]) {
     let mut line = Line {
         count: 0,
         long: false,
     };
     let mut turns: u64 = 18446744073709551615;
     while 0 < turns {
-        let t = turn(from, to, line, chunk, text, first, second, third, out);
+        let t = turn(from, to, line, chunk, text, out);
         line = t.line;
         turns = fewer(turns, t.ended);
     }
-    close(to, line, text, first, second, third, out);
+    close(to, line, text, out);
 }
 
 // Answers each line that `from` gives, on `to`. A line has at most 1,048,576 letters, a list at most 65,536 words.
 pub fn serve(from: i32, to: i32) {
     let mut chunk = [0u8; 65536];
     let mut text = [0u8; 1048576];
-    let mut first = [0u32; 65536];
-    let mut second = [0u32; 65536];
-    let mut third = [0u32; 65536];
     let mut out = [0u8; 1048576];
-    converse(
-        from,
-        to,
-        &mut chunk,
-        &mut text,
-        &mut first,
-        &mut second,
-        &mut third,
-        &mut out,
-    );
+    converse(from, to, &mut chunk, &mut text, &mut out);
 }

@@ -211,6 +211,47 @@ pub fn number(text: &[u8]) -> Single {
     one(n)
 }
 
+// Whether a letter stands in a comment, which goes from a # to the line's end.
+fn commented(before: bool, b: u8) -> bool {
+    match b {
+        b'#' => true,
+        b'\n' => false,
+        _ => before,
+    }
+}
+
+fn plain(comment: bool, b: u8) -> u8 {
+    if comment {
+        return b' ';
+    }
+    b
+}
+
+// Comments become spaces.
+pub fn uncomment(text: &mut [u8]) {
+    let mut comment = false;
+    let mut i: usize = 0;
+    while i < text.len() {
+        comment = commented(comment, text[i]);
+        text[i] = plain(comment, text[i]);
+        i += 1;
+    }
+}
+
+pub fn same(a: &[u8], b: &[u8]) -> bool {
+    if a.len() != b.len() {
+        return false;
+    }
+    let mut i: usize = 0;
+    while i < a.len() {
+        if a[i] != b[i] {
+            return false;
+        }
+        i += 1;
+    }
+    true
+}
+
 // Answers. Letters that do not fit are left out, so that no caller owes room.
 
 pub fn put_letter(out: &mut [u8], n: usize, b: u8) -> usize
@@ -315,11 +356,19 @@ fn behind(line: &[u8], from: usize) -> usize
     e
 }
 
-// Part k, counted from 0; past the last part, nothing.
+fn least(a: usize, b: usize) -> usize {
+    if a < b {
+        return a;
+    }
+    b
+}
+
+// Part k, counted from 0; past the last part, nothing. No line has more parts behind its first than letters.
 pub fn part(line: &[u8], k: usize) -> &[u8] {
+    let most = least(k, line.len());
     let mut at: usize = 0;
     let mut i: usize = 0;
-    while i < k {
+    while i < most {
         at = behind(line, at);
         i += 1;
     }

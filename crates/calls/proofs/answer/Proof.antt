@@ -1,4 +1,4 @@
--- `calls::answer` meets its contract: what is lent lies within the words and the line. Assumes nothing.
+-- `calls::answer` meets its contract: what is lent lies within its memory. Assumes nothing.
 use mathlib.Core.Path.{sym}
 use native.Mathlib.Omega.{arith}
 use lib.Seq.{length-take-le}
@@ -48,20 +48,11 @@ same-length-2 c = search needs
 returns-2 : tie.Need-returns-2
 returns-2 c = search needs
 
-line-of-requires : tie.Need-line-of-requires
-line-of-requires c κs = search needs
+call-line-requires : tie.Need-call-line-requires
+call-line-requires c κs = search needs
 
 same-length-3 : tie.Need-same-length-3
 same-length-3 c = search needs
-
-same-length-4 : tie.Need-same-length-4
-same-length-4 c = search needs
-
-same-length-5 : tie.Need-same-length-5
-same-length-5 c = search needs
-
-same-length-6 : tie.Need-same-length-6
-same-length-6 c = search needs
 
 returns-3 : tie.Need-returns-3
 returns-3 c = search needs
@@ -84,9 +75,6 @@ answer-spec =
     error-requires-2
     same-length-2
     returns-2
-    line-of-requires
+    call-line-requires
     same-length-3
-    same-length-4
-    same-length-5
-    same-length-6
     returns-3)

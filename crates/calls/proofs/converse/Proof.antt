@@ -8,10 +8,10 @@ use Rattle.calls.proofs.converse.Statement.{statement}
 use Rattle.calls.proofs.converse.Tie as tie
 
 abbrev Inv-loop : tie.InvT-loop
-Inv-loop from to chunk₀ text₀ first₀ second₀ third₀ out₀ line₀ turns₀ chunk text first second third out line turns = (line .count ≤ length text) × (length chunk ≡ length chunk₀) × (length text ≡ length text₀) × (length first ≡ length first₀) × (length second ≡ length second₀) × (length third ≡ length third₀) × (length out ≡ length out₀)
+Inv-loop from to chunk₀ text₀ out₀ line₀ turns₀ chunk text out line turns = (line .count ≤ length text) × (length chunk ≡ length chunk₀) × (length text ≡ length text₀) × (length out ≡ length out₀)
 
 abbrev μ-loop : tie.MeasureT-loop
-μ-loop from to chunk₀ text₀ first₀ second₀ third₀ out₀ line₀ turns₀ chunk text first second third out line turns = turns
+μ-loop from to chunk₀ text₀ out₀ line₀ turns₀ chunk text out line turns = turns
 
 loop-holds : tie.Need-loop-holds Inv-loop μ-loop
 loop-holds c = search needs
@@ -40,15 +40,6 @@ same-length-2 c = search needs
 same-length-3 : tie.Need-same-length-3 Inv-loop μ-loop
 same-length-3 c = search needs
 
-same-length-4 : tie.Need-same-length-4 Inv-loop μ-loop
-same-length-4 c = search needs
-
-same-length-5 : tie.Need-same-length-5 Inv-loop μ-loop
-same-length-5 c = search needs
-
-same-length-6 : tie.Need-same-length-6 Inv-loop μ-loop
-same-length-6 c = search needs
-
 returns : tie.Need-returns Inv-loop μ-loop
 returns c = search needs
 
@@ -67,7 +58,4 @@ converse-spec =
     same-length
     same-length-2
     same-length-3
-    same-length-4
-    same-length-5
-    same-length-6
     returns)

@@ -8,10 +8,10 @@ use Rattle.calls.proofs.feed.Statement.{statement}
 use Rattle.calls.proofs.feed.Tie as tie
 
 abbrev Inv-loop : tie.InvT-loop
-Inv-loop chunk to text₀ first₀ second₀ third₀ out₀ line₀ i₀ text first second third out line i = (i ≤ length chunk) × (line .count ≤ length text) × (length text ≡ length text₀) × (length first ≡ length first₀) × (length second ≡ length second₀) × (length third ≡ length third₀) × (length out ≡ length out₀)
+Inv-loop chunk to text₀ out₀ line₀ i₀ text out line i = (i ≤ length chunk) × (line .count ≤ length text) × (length text ≡ length text₀) × (length out ≡ length out₀)
 
 abbrev μ-loop : tie.MeasureT-loop
-μ-loop chunk to text₀ first₀ second₀ third₀ out₀ line₀ i₀ text first second third out line i = length chunk - i
+μ-loop chunk to text₀ out₀ line₀ i₀ text out line i = length chunk - i
 
 loop-holds : tie.Need-loop-holds Inv-loop μ-loop
 loop-holds c = search needs
@@ -37,15 +37,6 @@ same-length c = search needs
 same-length-2 : tie.Need-same-length-2 Inv-loop μ-loop
 same-length-2 c = search needs
 
-same-length-3 : tie.Need-same-length-3 Inv-loop μ-loop
-same-length-3 c = search needs
-
-same-length-4 : tie.Need-same-length-4 Inv-loop μ-loop
-same-length-4 c = search needs
-
-same-length-5 : tie.Need-same-length-5 Inv-loop μ-loop
-same-length-5 c = search needs
-
 returns : tie.Need-returns Inv-loop μ-loop
 returns c = search needs
 
@@ -63,7 +54,4 @@ feed-spec =
     loop-again
     same-length
     same-length-2
-    same-length-3
-    same-length-4
-    same-length-5
     returns)

@@ -24,15 +24,6 @@ answer-requires c κs = search needs
 same-length-2 : tie.Need-same-length-2
 same-length-2 c = search needs
 
-same-length-3 : tie.Need-same-length-3
-same-length-3 c = search needs
-
-same-length-4 : tie.Need-same-length-4
-same-length-4 c = search needs
-
-same-length-5 : tie.Need-same-length-5
-same-length-5 c = search needs
-
 returns-2 : tie.Need-returns-2
 returns-2 c = search needs
 
@@ -46,7 +37,4 @@ reply-spec =
     slice-aggregate-answer
     answer-requires
     same-length-2
-    same-length-3
-    same-length-4
-    same-length-5
     returns-2)

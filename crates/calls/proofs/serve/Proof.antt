@@ -1,8 +1,6 @@
 -- `calls::serve` is safe and ends. The lengths of the two largest arrays come by the law: they are too long to compute. Assumes nothing.
-use native.Mathlib.Omega.{arith}
-use lib.Seq.{length-take-le}
-use mathlib.Core.Path.{sym}
 use Prim.Native.Nat.{ℕ}
+use mathlib.Core.Path.{sym}
 use lib.ListN.{length-replicate}
 use borrow.Author.Needs.{needs}
 use Rattle.calls.proofs.serve.Statement.{statement}
@@ -15,16 +13,7 @@ slice-aggregate-converse-2 : tie.Need-slice-aggregate-converse-2
 slice-aggregate-converse-2 c = sym (length-replicate {A = ℕ} 1048576 0)
 
 slice-aggregate-converse-3 : tie.Need-slice-aggregate-converse-3
-slice-aggregate-converse-3 c = search needs
-
-slice-aggregate-converse-4 : tie.Need-slice-aggregate-converse-4
-slice-aggregate-converse-4 c = search needs
-
-slice-aggregate-converse-5 : tie.Need-slice-aggregate-converse-5
-slice-aggregate-converse-5 c = search needs
-
-slice-aggregate-converse-6 : tie.Need-slice-aggregate-converse-6
-slice-aggregate-converse-6 c = sym (length-replicate {A = ℕ} 1048576 0)
+slice-aggregate-converse-3 c = sym (length-replicate {A = ℕ} 1048576 0)
 
 converse-requires : tie.Need-converse-requires
 converse-requires c κs = search needs
@@ -39,8 +28,5 @@ serve-spec =
     slice-aggregate-converse
     slice-aggregate-converse-2
     slice-aggregate-converse-3
-    slice-aggregate-converse-4
-    slice-aggregate-converse-5
-    slice-aggregate-converse-6
     converse-requires
     returns)

@@ -24,15 +24,6 @@ write-all-requires c κs = search needs
 same-length : tie.Need-same-length
 same-length c = search needs
 
-same-length-2 : tie.Need-same-length-2
-same-length-2 c = search needs
-
-same-length-3 : tie.Need-same-length-3
-same-length-3 c = search needs
-
-same-length-4 : tie.Need-same-length-4
-same-length-4 c = search needs
-
 returns : tie.Need-returns
 returns c = search needs
 
@@ -46,7 +37,4 @@ tell-spec =
     slice-aggregate-write-all
     write-all-requires
     same-length
-    same-length-2
-    same-length-3
-    same-length-4
     returns)

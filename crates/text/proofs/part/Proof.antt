@@ -8,10 +8,13 @@ use Rattle.text.proofs.part.Statement.{statement}
 use Rattle.text.proofs.part.Tie as tie
 
 abbrev Inv-loop : tie.InvT-loop
-Inv-loop line k at₀ i₀ at i = (at ≤ length line) × (i ≤ k)
+Inv-loop line k most at₀ i₀ at i = (at ≤ length line) × (i ≤ most)
 
 abbrev μ-loop : tie.MeasureT-loop
-μ-loop line k at₀ i₀ at i = k - i
+μ-loop line k most at₀ i₀ at i = most - i
+
+least-requires : tie.Need-least-requires Inv-loop μ-loop
+least-requires c κs = search needs
 
 loop-holds : tie.Need-loop-holds Inv-loop μ-loop
 loop-holds c = search needs
@@ -49,6 +52,7 @@ part-spec =
     (tie.spec
     Inv-loop
     μ-loop
+    least-requires
     loop-holds
     behind-requires
     add-i

@@ -1,11 +1,11 @@
--- `calls::same` is safe and ends: the two are as long as each other where they are read. Assumes nothing.
+-- `text::same` is safe and ends: the two are as long as each other where they are read. Assumes nothing.
 use Prim.Native.Nat.{_≤_, _-_}
 use mathlib.Core.Path.{_≡_}
 use native.Mathlib.Omega.{arith}
 use borrow.Author.Needs.{needs}
 use lib.ListN.{length}
-use Rattle.calls.proofs.same.Statement.{statement}
-use Rattle.calls.proofs.same.Tie as tie
+use Rattle.text.proofs.same.Statement.{statement}
+use Rattle.text.proofs.same.Tie as tie
 
 abbrev Inv-loop : tie.InvT-loop
 Inv-loop a b i₀ i = (i ≤ length a) × (length a ≡ length b)
