@@ -13,3 +13,4 @@ pub mod Numbered
 pub mod Accepts
 pub mod Answers
 pub mod Bases
+pub mod Counts
