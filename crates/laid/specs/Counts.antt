@@ -7,6 +7,7 @@
 --   users-are-counted             a wire's uses are as often as its number stands in `useWires`
 --   free-is-a-running-sum         the free numbers are a running sum over the wires before
 --   stands-by-numbers             the wire of a use, by counting
+--   wire-total-by-numbers, node-total-by-numbers      the counts that ROOM asks for
 --   fork-nodes-by-number, fork-wires-by-number
 --
 -- Assumes nothing.
@@ -26,7 +27,7 @@ use Rattle.graph.specs.Below.{total, times}
 use Rattle.structure.specs.Structure.{Structure}
 use Rattle.lowered.specs.Roles.{Wire, Use, sameWire}
 use Rattle.lowered.specs.Sources.{source}
-use Rattle.lowered.specs.Lower.{wires, wireNumber, uses, keepIf, readerOf, readersIn, users, forkWires, forkNodes, legOf, freeAt, usersEach, plainWires, allUsers, standsOn}
+use Rattle.lowered.specs.Lower.{wires, wireNumber, uses, keepIf, readerOf, readersIn, users, forkWires, forkNodes, legOf, freeAt, allForkWires, allForkNodes, usersEach, plainNodes, plainWires, allUsers, standsOn, nodeTotal, wireTotal}
 use Rattle.laid.specs.Lists.{Among, Once, among-left, among-right, there, none-some, in-range, elem-right, at-position, position-is}
 use Rattle.laid.specs.Indexed.{total-first}
 use Rattle.laid.specs.Listed.{wires-once}
@@ -207,3 +208,37 @@ module _ (t : List ℕ) (S : Structure t) where
       ∙ ap (λ (f : ℕ). legAt (wireNumber t (m .0)) f (length (users t (m .0))) (length (readersIn t (m .0) a))) (free-is-a-running-sum (wireNumber t (m .0)) (plain-low low))
       ∙ ap₂ (λ (x y : ℕ). legAt (wireNumber t (m .0)) (plainWires t + total (forkSum t) (wireNumber t (m .0))) x y) (users-are-counted (wireNumber t (m .0)) (m .0) at) before in
       subst (λ (z : ℕ). standsOn t u ≡ legAt z (plainWires t + total (forkSum t) z) (times z (useWires t)) (times z (standing (sourceNumber t) a))) (sym n) leg
+
+  -- ---- the totals, which give ROOM before a word is written
+  abbrev pub forkCount : ℕ → ℕ
+  forkCount k = cond (eqb (times k (useWires t)) 0) 1 (times k (useWires t) - 1)
+
+  wires-from : (ws : List Wire) (c : ℕ → ℕ) → ((k : ℕ) (w : Wire) → getElem? ws k ≡ some w → forkWires (users t w) ≡ c k) → allForkWires (usersEach t ws) ≡ total c (length ws)
+  unfolding total
+  wires-from [] c h = refl
+  wires-from (w ∷ ws) c h =
+      let a = h 0 w refl in
+      let r = wires-from ws (λ k. c (suc k)) (λ k v e. h (suc k) v e) in
+      let q = total-first c (length ws) in
+      omega arith
+
+  nodes-from : (ws : List Wire) (c : ℕ → ℕ) → ((k : ℕ) (w : Wire) → getElem? ws k ≡ some w → forkNodes (users t w) ≡ c k) → allForkNodes (usersEach t ws) ≡ total c (length ws)
+  unfolding total
+  nodes-from [] c h = refl
+  nodes-from (w ∷ ws) c h =
+      let a = h 0 w refl in
+      let r = nodes-from ws (λ k. c (suc k)) (λ k v e. h (suc k) v e) in
+      let q = total-first c (length ws) in
+      omega arith
+
+  pub wire-total-by-numbers : wireTotal t ≡ plainWires t + total (forkSum t) (plainWires t)
+  unfolding wireTotal allUsers plainWires
+  wire-total-by-numbers =
+      ap (λ (n : ℕ). length (wires t) + n)
+      (wires-from (wires t) (forkSum t) (λ k w h. fork-wires-by-number (users t w) ∙ ap (λ (n : ℕ). 2 * (n - 1)) (users-are-counted k w h)))
+
+  pub node-total-by-numbers : nodeTotal t ≡ plainNodes t + total forkCount (plainWires t)
+  unfolding nodeTotal allUsers plainWires
+  node-total-by-numbers =
+      ap (λ (n : ℕ). plainNodes t + n)
+      (nodes-from (wires t) forkCount (λ k w h. fork-nodes-by-number (users t w) ∙ ap (λ (n : ℕ). cond (eqb n 0) 1 (n - 1)) (users-are-counted k w h)))

@@ -14,3 +14,4 @@ pub mod Accepts
 pub mod Answers
 pub mod Bases
 pub mod Counts
+pub mod Wired
