@@ -15,3 +15,4 @@ pub mod Answers
 pub mod Bases
 pub mod Counts
 pub mod Wired
+pub mod Sourced

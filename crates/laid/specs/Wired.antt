@@ -4,7 +4,6 @@
 --   homeNumber            the number of a value's wire at home
 --   valueNumber           the number of the wire on which a value comes to a body
 --   value-by-number       of every value that is reached
---   op-sources, pick-sources, for-sources, arg-sources, out-source    the sources of a row's nodes, in order
 --
 -- Assumes nothing.
 use Prim.Native.Nat.{ℕ, zero, suc, _+_, _*_, _≤_, _<_}
