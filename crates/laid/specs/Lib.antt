@@ -16,3 +16,4 @@ pub mod Bases
 pub mod Counts
 pub mod Wired
 pub mod Sourced
+pub mod Scanned
