@@ -76,13 +76,13 @@ walk-stops t v L B e (further n w) = n e
 
 module _ (t : List ℕ) (S : Structure t) where
   -- a body around B that is not B is around the body around B
-  out-of : (H B : ℕ) → B < size t → kindOf t B ≡ 4 → H ≢ B → Encloses t H B → Encloses t H (bodyOf t B)
+  pub out-of : (H B : ℕ) → B < size t → kindOf t B ≡ 4 → H ≢ B → Encloses t H B → Encloses t H (bodyOf t B)
   out-of H B l k n (same e) = absurd (n e)
   out-of H B l k n (within kH a b) = S .body-inmost B H (omega arith) (in-table t S H (λ z. omega arith)) (record { is-for = kH; low = a; high = b })
   out-of H B l k n (outermost e) = outermost e
 
   -- nothing but the outermost body is around the outermost body
-  at-the-rim : (H : ℕ) → Encloses t H (size t) → H ≡ size t
+  pub at-the-rim : (H : ℕ) → Encloses t H (size t) → H ≡ size t
   at-the-rim H (same e) = e
   at-the-rim H (within kH a b) = let s = S .loop-span H (in-table t S H (λ z. omega arith)) kH in let i = s .inside in absurd (omega arith)
   at-the-rim H (outermost e) = e
@@ -122,7 +122,7 @@ module _ (t : List ℕ) (S : Structure t) where
   abbrev Passed : ℕ → ℕ → ℕ → Type 0
   Passed v L B = (home t v ≢ L) × (holds L (stackAt t (home t v)) ≡ false) × (inside t L B ≡ true)
 
-  around-body : (B : ℕ) → B < size t → (bodyOf t B ≡ size t) ⊎ ((bodyOf t B < size t) × (kindOf t (bodyOf t B) ≡ 4))
+  pub around-body : (B : ℕ) → B < size t → (bodyOf t B ≡ size t) ⊎ ((bodyOf t B < size t) × (kindOf t (bodyOf t B) ≡ 4))
   around-body B l =
       elim (ℕ-discrete (bodyOf t B) (size t)) [
         | yes e ↦ inl e
@@ -143,7 +143,7 @@ module _ (t : List ℕ) (S : Structure t) where
             | inr q ↦ no-both (holds L (stackAt t (bodyOf t B))) q (ap (λ (x : ℕ). holds L (stackAt t x)) d ∙ ap (holds L) (S .all-shut))
           ]
 
-  reads-body-or-rim : (r : ℕ) → r < size t → (reads t r ≡ size t) ⊎ ((reads t r < size t) × (kindOf t (reads t r) ≡ 4))
+  pub reads-body-or-rim : (r : ℕ) → r < size t → (reads t r ≡ size t) ⊎ ((reads t r < size t) × (kindOf t (reads t r) ≡ 4))
   reads-body-or-rim r l =
       elim (ℕ-discrete (reads t r) (size t)) [ yes e ↦ inl e | no n ↦ (let b = reads-loop t S r l n in inr (b .1, b .0)) ]
 

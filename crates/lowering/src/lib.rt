@@ -4,7 +4,7 @@ ghost use Prim.Native.Nat.{_+_, _*_, _<_, _≤_};
 ghost use lib.ListN.{length, getD};
 ghost use Rattle.table.specs.Rows.{kindOf, size};
 ghost use Rattle.table.specs.Scan.{bodyOf, home, reads};
-ghost use Rattle.lowering.specs.Kept.{Passing, Bodies};
+ghost use Rattle.lowering.specs.Kept.{Passing, Bodies, markPlace, OnTheWay, Marks};
 
 // The kinds of rows.
 const CONST: u32 = 1;
@@ -90,4 +90,16 @@ fn reads_of(table: &[u32], n: u32, bodies: &[u32; 512], r: u32) -> u32
         return body_at(bodies, body_at(bodies, r));
     }
     body_at(bodies, r)
+}
+
+// Marks every loop that value v passes on its way from body b out to its home, one loop further out each time.
+fn carry_in(table: &[u32], n: u32, bodies: &[u32; 512], marks: &mut [u32; 262144], v: u32, h: u32, b: u32)
+    requires { ⌜ Passing (now table) n × Bodies (now table) n (now bodies) × (v < n) × (h ≡ home (now table) v) × OnTheWay (now table) v b × (length (now marks) ≡ 262144) ⌝ }
+    ensures { λ u. ⌜ Marks (now (table .entry)) v b (now (marks .entry)) (now (marks .exit)) ⌝ }
+{
+    if b == h {
+        return;
+    }
+    marks[(512 * b + v) as usize] = 1;
+    carry_in(table, n, bodies, marks, v, h, body_at(bodies, b));
 }
