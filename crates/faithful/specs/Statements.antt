@@ -29,18 +29,6 @@ use native.Mathlib.Omega.{arith}
 use borrow.Author.Tests.{eqb-true}
 use lib.Dec.{eqb}
 use lib.ListN.{length}
-<<<<<<< HEAD
-use Rattle.step.specs.Kinds.{STREAM, Input, in0, in1, in2, out1}
-use Rattle.step.specs.Machines.{rest}
-use Rattle.graph.specs.Below.{every, every-each, times, times-somewhere}
-use Rattle.graph.specs.Graph.{nodeCount, wireCount, inputAt, inputOf, resultCount, resultAt, results, Node}
-use Rattle.graph.specs.Refusal.{graphRefusal}
-use Rattle.graph.specs.Accepted.{node-in-range}
-use Rattle.state.specs.Load.{loaded}
-use Rattle.state.specs.Net.{netOf, fire}
-use Rattle.state.specs.Run.{isFull, isResult, complete, othersEmpty, resultsFull, phasesZero, COMPLETE, SPENT, ZERO-STEP, outcome}
-use Rattle.confluence.specs.Statements.{Fires, AtRest, putOnWire, RestsAlike, every-order-rests-alike, runOf, madeBy, enough-is-not-spent, run-is-an-order}
-=======
 use Rattle.step.specs.Kinds.{out1}
 use Rattle.graph.specs.Graph.{nodeCount}
 use Rattle.graph.specs.Refusal.{graphRefusal}
@@ -48,8 +36,7 @@ use Rattle.graph.specs.Accepted.{node-in-range}
 use Rattle.state.specs.Load.{loaded}
 use Rattle.state.specs.Net.{netOf}
 use Rattle.state.specs.Run.{COMPLETE, SPENT, ZERO-STEP, outcome}
-use Rattle.confluence.specs.Statements.{Fires, AtRest, putOnWire, every-order-rests-alike, runOf, enough-is-not-spent, run-is-an-order}
->>>>>>> faithful
+use Rattle.confluence.specs.Statements.{Fires, AtRest, putOnWire, every-order-rests-alike, runOf, madeBy, enough-is-not-spent, run-is-an-order}
 use Rattle.table.specs.Rows.{kindOf, size, FOR}
 use Rattle.table.specs.Check.{tableRefusal, answer}
 use Rattle.structure.specs.Structure.{Structure, passing-table-has-structure}

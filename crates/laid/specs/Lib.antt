@@ -13,3 +13,7 @@ pub mod Numbered
 pub mod Accepts
 pub mod Answers
 pub mod Bases
+pub mod Counts
+pub mod Wired
+pub mod Sourced
+pub mod Scanned
