@@ -12,3 +12,8 @@ pub mod Sorted
 pub mod Numbered
 pub mod Accepts
 pub mod Answers
+pub mod Bases
+pub mod Counts
+pub mod Wired
+pub mod Sourced
+pub mod Scanned

@@ -60,11 +60,11 @@ module _ (t : List ℕ) where
       go true q k = inl (eqb-true B L q)
       go false q k = inr k
 
-  inside-at : (L : ℕ) → inside t L L ≡ true
+  pub inside-at : (L : ℕ) → inside t L L ≡ true
   unfolding inside
   inside-at L = rw (eq-eqb L L refl)
 
-  inside-by : (L B : ℕ) → holds L (stackAt t B) ≡ true → inside t L B ≡ true
+  pub inside-by : (L B : ℕ) → holds L (stackAt t B) ≡ true → inside t L B ≡ true
   unfolding inside
   inside-by L B h = go (eqb B L)
     where

@@ -1,0 +1,2 @@
+-- What the code of lowering keeps while it goes down the rows.
+pub mod Kept
