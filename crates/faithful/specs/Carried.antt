@@ -25,6 +25,7 @@ use Rattle.structure.specs.Structure.{Structure}
 use Rattle.lowered.specs.Gathered.{some?}
 use Rattle.lowered.specs.Sources.{isFor, carried, names}
 use Rattle.lowered.specs.Sources
+use Rattle.laid.specs.Reached.{some-from, some-has}
 use Rattle.faithful.specs.Table.{Table, IsFor}
 use Rattle.faithful.specs.Good.{Inner}
 use Rattle.faithful.specs.Tables
@@ -61,25 +62,6 @@ not-true false h = refl
 
 clash : {b : Bool} → b ≡ true → b ≡ false → ⊥
 clash h k = let z : _≡_ {A = ℕ} 0 1 = cc in omega arith
-
--- one of the numbers below n passes
-some-found : (test : ℕ → Bool) (n : ℕ) → some? test n ≡ true → (i : ℕ) × (i < n) × (test i ≡ true)
-unfolding some?
-some-found test zero h = let z : _≡_ {A = ℕ} 0 1 = cc in absurd (omega arith)
-some-found test (suc n) h = go (either (test n) (some? test n) h) (some-found test n)
-  where
-    go : (test n ≡ true) ⊎ (some? test n ≡ true) → (some? test n ≡ true → (i : ℕ) × (i < n) × (test i ≡ true)) → (i : ℕ) × (i < suc n) × (test i ≡ true)
-    go (inl k) ih = (n, omega arith, k)
-    go (inr k) ih = let r = ih k in let r1 : r .0 < n = r .1 in (r .0, omega arith, r .2)
-
-found-some : (test : ℕ → Bool) (n i : ℕ) → i < n → test i ≡ true → some? test n ≡ true
-unfolding some?
-found-some test zero i l h = absurd (omega arith)
-found-some test (suc n) i l h =
-    elim (ℕ-discrete i n) [
-      | yes e ↦ or-left (test n) (some? test n) (subst (λ (z : ℕ). test z ≡ true) e h)
-      | no e ↦ or-right (test n) (some? test n) (found-some test n i (omega arith) h)
-    ]
 
 module _ (t : List ℕ) (S : Structure t) where
   abbrev tb : Table
@@ -209,11 +191,11 @@ module _ (t : List ℕ) (S : Structure t) where
 
   name-of : (r v : ℕ) → names t r v ≡ true → (j : ℕ) × (j < operandCount (kindOf t r)) × (operand t r j ≡ v)
   unfolding names
-  name-of r v h = let x = some-found (λ j. eqb (operand t r j) v) (operandCount (kindOf t r)) h in (x .0, x .1, eqb-true (operand t r (x .0)) v (x .2))
+  name-of r v h = let x = some-from (λ j. eqb (operand t r j) v) (operandCount (kindOf t r)) h in (x .0, x .1, eqb-true (operand t r (x .0)) v (x .2))
 
   of-name : (r j : ℕ) → j < operandCount (kindOf t r) → names t r (operand t r j) ≡ true
   unfolding names
-  of-name r j l = found-some (λ i. eqb (operand t r i) (operand t r j)) (operandCount (kindOf t r)) j l (eq-eqb (operand t r j) (operand t r j) refl)
+  of-name r j l = some-has (λ i. eqb (operand t r i) (operand t r j)) (operandCount (kindOf t r)) j l (eq-eqb (operand t r j) (operand t r j) refl)
 
   -- v is carried into L because operand j of row r in L names it
   pub record CarriedBy (L v : ℕ) : Type 0 where
@@ -235,7 +217,7 @@ module _ (t : List ℕ) (S : Structure t) where
       let k : kindOf t L ≡ 4 = eqb-true (kindOf t L) 4 (a .0) in
       let l = Tables.below-by-kind t S L 3 k in
       let b = both (not (Sources.inside t L (home t v))) (some? (λ r. Sources.inside t L (reads t r) && names t r v) (size t)) (a .1) in
-      let f = some-found (λ r. Sources.inside t L (reads t r) && names t r v) (size t) (b .1) in
+      let f = some-from (λ r. Sources.inside t L (reads t r) && names t r v) (size t) (b .1) in
       let c = both (Sources.inside t L (reads t (f .0))) (names t (f .0) v) (f .2) in
       let n = name-of (f .0) v (c .1) in
       record {
@@ -255,7 +237,7 @@ module _ (t : List ℕ) (S : Structure t) where
       → Sources.inside t L (home t v) ≡ false → tb .carried L v ≡ true
   unfolding carried
   by-carried L v r j k l lj e i o =
-      rw (eq-eqb (kindOf t L) 4 k, o, found-some (λ r. Sources.inside t L (reads t r) && names t r v) (size t) r l (rw (i, subst (λ (z : ℕ). names t r z ≡ true) e (of-name r j lj))))
+      rw (eq-eqb (kindOf t L) 4 k, o, some-has (λ r. Sources.inside t L (reads t r) && names t r v) (size t) r l (rw (i, subst (λ (z : ℕ). names t r z ≡ true) e (of-name r j lj))))
 
   -- ---- what is carried in was there before
   module _ (L v : ℕ) (c : CarriedBy L v) where

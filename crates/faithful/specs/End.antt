@@ -165,11 +165,11 @@ module _ (tb : Table) (g : Good tb) (L s t b u c : ℕ) (q : tb .row L ≡ for s
     abbrev pub A3 : State
     A3 = S3 tb g L isfor a1 a2 a3 σ (G .inners)
 
-    Ag1 : (p : Use) (v B d : ℕ) → slot tb p ≡ val v B d → given (only tb L a1) (some (wireOf tb v B)) ≡ none
-    Ag1 p v B d h = g-none tb g L isfor a1 refl (λ _. refl) (λ _. refl) (λ _. refl) v B (fills p v B d h)
+    again-g1 : (p : Use) (v B d : ℕ) → slot tb p ≡ val v B d → given (only tb L a1) (some (wireOf tb v B)) ≡ none
+    again-g1 p v B d h = g-none tb g L isfor a1 refl (λ _. refl) (λ _. refl) (λ _. refl) v B (fills p v B d h)
 
-    Aruns1 : (n : Role) → inLoop tb L n ≡ true → Runs tb g L isfor a1 σ n
-    Aruns1 =
+    again-runs1 : (n : Role) → inLoop tb L n ≡ true → Runs tb g L isfor a1 σ n
+    again-runs1 =
         by-role tb g L isfor (Runs tb g L isfor a1 σ)
         (inr (runs-by (programOf tb (stream L)) σ (stream L) (σ .tok (into (stream L) in0)) (σ .tok (into (stream L) in1)) (σ .tok (into (stream L) in2)) (holding index (env t) (env b))
         (record { takes0 = false; takes1 = false; takes2 = false; gives0 = some index; gives1 = some 1; next = holding (update u index (env t)) (env t) (env b) }) refl refl refl stream-own
@@ -180,26 +180,26 @@ module _ (tb : Table) (g : Good tb) (L s t b u c : ℕ) (q : tb .row L ≡ for s
         refl refl (carry-token a i h l) (busy (carry a) (arg-in tb L a l (ap isArg h))) refl))
         (λ a i h l. inl refl)
 
-    Aready1 : (n : Role) (d : Effect) → inLoop tb L n ≡ true → a1 n ≡ some d → Ready (plan tb) n d σ
-    Aready1 =
-        ready-all tb g L isfor a1 σ (to-runs tb g L isfor a1 σ Aruns1) (λ p w y h k. G .inners p w h)
-        (λ p v B d y h k. no-gift tb g L isfor (given (only tb L a1) (some (wireOf tb v B))) y (Ag1 p v B d h) k)
+    again-ready1 : (n : Role) (d : Effect) → inLoop tb L n ≡ true → a1 n ≡ some d → Ready (plan tb) n d σ
+    again-ready1 =
+        ready-all tb g L isfor a1 σ (to-runs tb g L isfor a1 σ again-runs1) (λ p w y h k. G .inners p w h)
+        (λ p v B d y h k. no-gift tb g L isfor (given (only tb L a1) (some (wireOf tb v B))) y (again-g1 p v B d h) k)
 
     -- a value's use after stage 1
-    Aval1 : (p : Use) (v B d : ℕ) → slot tb p ≡ val v B d → A1 .tok p ≡ drop (taken (only tb L a1) p) (σ .tok p)
-    Aval1 p v B d h = tokv tb g L isfor a1 σ p v B d h ∙ ap (λ (x : Option ℕ). put x (drop (taken (only tb L a1) p) (σ .tok p))) (Ag1 p v B d h)
+    again-val1 : (p : Use) (v B d : ℕ) → slot tb p ≡ val v B d → A1 .tok p ≡ drop (taken (only tb L a1) p) (σ .tok p)
+    again-val1 p v B d h = tokv tb g L isfor a1 σ p v B d h ∙ ap (λ (x : Option ℕ). put x (drop (taken (only tb L a1) p) (σ .tok p))) (again-g1 p v B d h)
 
     -- the body's uses are empty then
-    Abody1 : (p : Use) (v B d : ℕ) → slot tb p ≡ val v B d → B ≡ L → A1 .tok p ≡ none
-    Abody1 p v B d h e = Aval1 p v B d h ∙ go (taking tb g L isfor p v B d h)
+    again-body1 : (p : Use) (v B d : ℕ) → slot tb p ≡ val v B d → B ≡ L → A1 .tok p ≡ none
+    again-body1 p v B d h e = again-val1 p v B d h ∙ go (taking tb g L isfor p v B d h)
       where
         go : Taking tb g L isfor p B d → drop (taken (only tb L a1) p) (σ .tok p) ≡ none
         go (takenByFor x y z) = absurd (reads-not tb g L isfor (sym z ∙ e))
         go (takenByEnd a i x m l y z) = ap (λ (w : Bool). drop w (σ .tok p)) (takes-yes tb g L isfor p (carry a) in2 x (arg-in tb L a l (ap isArg m)) a1)
         go (takenByNone x y z) = dropped (taken (only tb L a1) p) (σ .tok p) (body-done p v B d h e y)
 
-    Aruns2 : (n : Role) → inLoop tb L n ≡ true → Runs tb g L isfor a2 A1 n
-    Aruns2 =
+    again-runs2 : (n : Role) → inLoop tb L n ≡ true → Runs tb g L isfor a2 A1 n
+    again-runs2 =
         by-role tb g L isfor (Runs tb g L isfor a2 A1)
         (inl refl)
         (inr (runs-by (programOf tb (gate L)) A1 (gate L) (some index) (some 1) (A1 .tok (into (gate L) in2)) (inPhase 1) (record { takes0 = true; takes1 = true; takes2 = false; gives0 = some index; gives1 = some 1; next = inPhase 1 })
@@ -210,9 +210,9 @@ module _ (tb : Table) (g : Good tb) (L s t b u c : ℕ) (q : tb .row L ≡ for s
         (λ a i h l. inr (runs-by (programOf tb (argSplit a)) A1 (argSplit a) (some 1) (some (news a)) (A1 .tok (into (argSplit a) in2)) rest (record { takes0 = true; takes1 = true; takes2 = false; gives0 = some (news a); gives1 = none; next = rest })
         (at1 tb g L isfor a1 a2 a3 σ (G .inners) (arg0 a) (l, ap isArg h)) (at1 tb g L isfor a1 a2 a3 σ (G .inners) (arg1 a) (l, ap isArg h)) refl (own-in tb g L isfor a1 σ (argSplit a) (arg-in tb L a l (ap isArg h)) ∙ busy (argSplit a) (arg-in tb L a l (ap isArg h))) refl))
 
-    Aready2 : (n : Role) (d : Effect) → inLoop tb L n ≡ true → a2 n ≡ some d → Ready (plan tb) n d A1
-    Aready2 =
-        ready-all tb g L isfor a2 A1 (to-runs tb g L isfor a2 A1 Aruns2) (room2 tb g L isfor a1 a2 a3 σ (G .inners) rm) (λ p v B d y h z. go p v B d y h z (fills p v B d h))
+    again-ready2 : (n : Role) (d : Effect) → inLoop tb L n ≡ true → a2 n ≡ some d → Ready (plan tb) n d A1
+    again-ready2 =
+        ready-all tb g L isfor a2 A1 (to-runs tb g L isfor a2 A1 again-runs2) (room2 tb g L isfor a1 a2 a3 σ (G .inners) rm) (λ p v B d y h z. go p v B d y h z (fills p v B d h))
       where
         rm : (x : Inlet) (y : ℕ) → giveBy (a2 (inletFrom L x)) (inletOutput x) ≡ some y → flow tb g L isfor a1 x none ≡ none
         rm gate0 y h = no-gift tb g L isfor none y refl h
@@ -225,23 +225,23 @@ module _ (tb : Table) (g : Good tb) (L s t b u c : ℕ) (q : tb .row L ≡ for s
         rm (arg1 a) y h = no-gift tb g L isfor none y refl h
 
         go : (p : Use) (v B d y : ℕ) → slot tb p ≡ val v B d → given (only tb L a2) (some (wireOf tb v B)) ≡ some y → Fill tb g L isfor v B → A1 .tok p ≡ none
-        go p v B d y h z (fillsIndex a e w m) = Abody1 p v B d h e
-        go p v B d y h z (fillsArg i a l e w m) = Abody1 p v B d h e
-        go p v B d y h z (fillsCopy a e w m) = Abody1 p v B d h e
-        go p v B d y h z (fillsExit x a l e w n m) = Aval1 p v B d h ∙ dropped (taken (only tb L a1) p) (σ .tok p) (G .values p v B d h .off (λ k. let k2 = k .2 in omega arith))
+        go p v B d y h z (fillsIndex a e w m) = again-body1 p v B d h e
+        go p v B d y h z (fillsArg i a l e w m) = again-body1 p v B d h e
+        go p v B d y h z (fillsCopy a e w m) = again-body1 p v B d h e
+        go p v B d y h z (fillsExit x a l e w n m) = again-val1 p v B d h ∙ dropped (taken (only tb L a1) p) (σ .tok p) (G .values p v B d h .off (λ k. let k2 = k .2 in omega arith))
         go p v B d y h z (fillsNone a l m) = no-gift tb g L isfor (given (only tb L a2) (some (wireOf tb v B))) y (m a2) z
 
-    Aruns3 : (n : Role) → inLoop tb L n ≡ true → Runs tb g L isfor a3 A2 n
-    Aruns3 =
+    again-runs3 : (n : Role) → inLoop tb L n ≡ true → Runs tb g L isfor a3 A2 n
+    again-runs3 =
         by-role tb g L isfor (Runs tb g L isfor a3 A2)
         (inl refl) (inl refl) (inl refl) (λ v h. inl refl)
         (λ v h. inr (runs-by (programOf tb (copyInvariant L v)) A2 (copyInvariant L v) (some 1) (A2 .tok (into (copyInvariant L v) in1)) (A2 .tok (into (copyInvariant L v) in2)) (holding (env v) 0 0) (record { takes0 = true; takes1 = false; takes2 = false; gives0 = some (env v); gives1 = none; next = holding (env v) 0 0 })
         (at2 tb g L isfor a1 a2 a3 σ (G .inners) (inv0 v) h) refl refl (own2 tb g L isfor a1 a2 a3 σ (G .inners) (copyInvariant L v) (two-in tb L v h) ∙ busy (copyInvariant L v) (two-in tb L v h)) refl))
         (λ a i h l. inl refl) (λ a i h l. inl refl)
 
-    Aready3 : (n : Role) (d : Effect) → inLoop tb L n ≡ true → a3 n ≡ some d → Ready (plan tb) n d A2
-    Aready3 =
-        ready-all tb g L isfor a3 A2 (to-runs tb g L isfor a3 A2 Aruns3) (room3 tb g L isfor a1 a2 a3 σ (G .inners) rm) (λ p v B d y h z. go p v B d y h z (fills p v B d h))
+    again-ready3 : (n : Role) (d : Effect) → inLoop tb L n ≡ true → a3 n ≡ some d → Ready (plan tb) n d A2
+    again-ready3 =
+        ready-all tb g L isfor a3 A2 (to-runs tb g L isfor a3 A2 again-runs3) (room3 tb g L isfor a1 a2 a3 σ (G .inners) rm) (λ p v B d y h z. go p v B d y h z (fills p v B d h))
       where
         rm : (x : Inlet) (y : ℕ) → giveBy (a3 (inletFrom L x)) (inletOutput x) ≡ some y → flow tb g L isfor a2 x (flow tb g L isfor a1 x none) ≡ none
         rm gate0 y h = no-gift tb g L isfor none y refl h
@@ -257,21 +257,21 @@ module _ (tb : Table) (g : Good tb) (L s t b u c : ℕ) (q : tb .row L ≡ for s
         go p v B d y h z (fillsIndex a e w m) = no-gift tb g L isfor (given (only tb L a3) (some (wireOf tb v B))) y (m a3) z
         go p v B d y h z (fillsArg i a l e w m) = no-gift tb g L isfor (given (only tb L a3) (some (wireOf tb v B))) y (m a3) z
         go p v B d y h z (fillsCopy a e w m) =
-            tokv tb g L isfor a2 A1 p v B d h ∙ put-drop-none (given (only tb L a2) (some (wireOf tb v B))) (taken (only tb L a2) p) (A1 .tok p) (m a2) (Abody1 p v B d h e)
+            tokv tb g L isfor a2 A1 p v B d h ∙ put-drop-none (given (only tb L a2) (some (wireOf tb v B))) (taken (only tb L a2) p) (A1 .tok p) (m a2) (again-body1 p v B d h e)
         go p v B d y h z (fillsExit x a l e w n m) = no-gift tb g L isfor (given (only tb L a3) (some (wireOf tb v B))) y (m a3) z
         go p v B d y h z (fillsNone a l m) = no-gift tb g L isfor (given (only tb L a3) (some (wireOf tb v B))) y (m a3) z
 
     -- values where the step ends
-    Afinal : (p : Use) (v B d : ℕ) → slot tb p ≡ val v B d
+    again-final : (p : Use) (v B d : ℕ) → slot tb p ≡ val v B d
         → A3 .tok p ≡ put (given (only tb L a3) (some (wireOf tb v B))) (drop (taken (only tb L a3) p) (put (given (only tb L a2) (some (wireOf tb v B))) (drop (taken (only tb L a2) p) (drop (taken (only tb L a1) p) (σ .tok p)))))
-    Afinal p v B d h =
+    again-final p v B d h =
         tokv tb g L isfor a3 A2 p v B d h
         ∙ ap (λ (x : Option ℕ). put (given (only tb L a3) (some (wireOf tb v B))) (drop (taken (only tb L a3) p) x))
-        (tokv tb g L isfor a2 A1 p v B d h ∙ ap (λ (x : Option ℕ). put (given (only tb L a2) (some (wireOf tb v B))) (drop (taken (only tb L a2) p) x)) (Aval1 p v B d h))
+        (tokv tb g L isfor a2 A1 p v B d h ∙ ap (λ (x : Option ℕ). put (given (only tb L a2) (some (wireOf tb v B))) (drop (taken (only tb L a2) p) x)) (again-val1 p v B d h))
 
     -- no value's use is taken at stages 2 and 3
-    Alate : (p : Use) (v B d : ℕ) → slot tb p ≡ val v B d → (taken (only tb L a2) p ≡ false) × (taken (only tb L a3) p ≡ false)
-    Alate p v B d h = go (taking tb g L isfor p v B d h)
+    again-late : (p : Use) (v B d : ℕ) → slot tb p ≡ val v B d → (taken (only tb L a2) p ≡ false) × (taken (only tb L a3) p ≡ false)
+    again-late p v B d h = go (taking tb g L isfor p v B d h)
       where
         both : (m : Role) (i : Input) → p ≡ into m i → inLoop tb L m ≡ true → takeBy (a2 m) i ≡ false → takeBy (a3 m) i ≡ false → (taken (only tb L a2) p ≡ false) × (taken (only tb L a3) p ≡ false)
         both m i e x y z = (takes-yes tb g L isfor p m i e x a2 ∙ y, takes-yes tb g L isfor p m i e x a3 ∙ z)
@@ -292,15 +292,15 @@ module _ (tb : Table) (g : Good tb) (L s t b u c : ℕ) (q : tb .row L ≡ for s
     env1 = turnEnv tb L index news env
 
     -- what the loop does not give
-    Akept : (p : Use) (v B d : ℕ) → slot tb p ≡ val v B d → given (only tb L a2) (some (wireOf tb v B)) ≡ none → given (only tb L a3) (some (wireOf tb v B)) ≡ none → (B ≡ L → since tb v B ≢ 0)
+    again-kept : (p : Use) (v B d : ℕ) → slot tb p ≡ val v B d → given (only tb L a2) (some (wireOf tb v B)) ≡ none → given (only tb L a3) (some (wireOf tb v B)) ≡ none → (B ≡ L → since tb v B ≢ 0)
         → Shows tb (A3 .tok p) v B d (tb .first L) env1
-    Akept p v B d h w2 w3 n = go (taking tb g L isfor p v B d h)
+    again-kept p v B d h w2 w3 n = go (taking tb g L isfor p v B d h)
       where
         us : Used tb v B d
         us = g .uses p v B d h
 
         rest3 : A3 .tok p ≡ drop (taken (only tb L a1) p) (σ .tok p)
-        rest3 = let lt = Alate p v B d h in let t2 = lt .0 in let t3 = lt .1 in Afinal p v B d h ∙ rw (w2, w3, t2, t3)
+        rest3 = let lt = again-late p v B d h in let t2 = lt .0 in let t3 = lt .1 in again-final p v B d h ∙ rw (w2, w3, t2, t3)
 
         stay : d ≢ tb .last L → taken (only tb L a1) p ≡ false → Shows tb (A3 .tok p) v B d (tb .first L) env1
         stay nd a1 =
@@ -330,8 +330,8 @@ module _ (tb : Table) (g : Good tb) (L s t b u c : ℕ) (q : tb .row L ≡ for s
             ])
         go (takenByNone a x y) = stay x (y a1)
 
-    Afilled : (p : Use) (v B d : ℕ) → slot tb p ≡ val v B d → B ≡ L → since tb v B ≡ 0 → A3 .tok p ≡ some (env1 v) → Shows tb (A3 .tok p) v B d (tb .first L) env1
-    Afilled p v B d h e z w =
+    again-filled : (p : Use) (v B d : ℕ) → slot tb p ≡ val v B d → B ≡ L → since tb v B ≡ 0 → A3 .tok p ≡ some (env1 v) → Shows tb (A3 .tok p) v B d (tb .first L) env1
+    again-filled p v B d h e z w =
         let us = g .uses p v B d h in
         let fe : tb .first B ≡ tb .first L = ap (tb .first) e in
         let le : tb .last B ≡ tb .last L = ap (tb .last) e in
@@ -339,24 +339,24 @@ module _ (tb : Table) (g : Good tb) (L s t b u c : ℕ) (q : tb .row L ≡ for s
         let lo : tb .first B ≤ d = us .place .low in
         shows-some tb (A3 .tok p) v B d (tb .first L) env1 w (omega arith, omega arith, omega arith, omega arith)
 
-    Agiven2 : (p : Use) (v B d y : ℕ) → slot tb p ≡ val v B d → given (only tb L a2) (some (wireOf tb v B)) ≡ some y → given (only tb L a3) (some (wireOf tb v B)) ≡ none → A3 .tok p ≡ some y
-    Agiven2 p v B d y h w2 w3 = let lt = Alate p v B d h in let t3 = lt .1 in Afinal p v B d h ∙ rw (w2, w3, t3)
+    again-given2 : (p : Use) (v B d y : ℕ) → slot tb p ≡ val v B d → given (only tb L a2) (some (wireOf tb v B)) ≡ some y → given (only tb L a3) (some (wireOf tb v B)) ≡ none → A3 .tok p ≡ some y
+    again-given2 p v B d y h w2 w3 = let lt = again-late p v B d h in let t3 = lt .1 in again-final p v B d h ∙ rw (w2, w3, t3)
 
     vals-again : (p : Use) (v B d : ℕ) → slot tb p ≡ val v B d → Shows tb (A3 .tok p) v B d (tb .first L) env1
     vals-again p v B d h = go (fills p v B d h)
       where
         go : Fill tb g L isfor v B → Shows tb (A3 .tok p) v B d (tb .first L) env1
-        go (fillsIndex a e w m) = Afilled p v B d h e w (Agiven2 p v B d index h (m a2) (m a3) ∙ ap some (sym (ap env1 a ∙ turn-idx tb g L isfor index news env)))
-        go (fillsArg i a l e w m) = Afilled p v B d h e w (Agiven2 p v B d (news v) h (m a2) (m a3) ∙ ap some (sym (turn-arg tb g L isfor v i index news env a l)))
+        go (fillsIndex a e w m) = again-filled p v B d h e w (again-given2 p v B d index h (m a2) (m a3) ∙ ap some (sym (ap env1 a ∙ turn-idx tb g L isfor index news env)))
+        go (fillsArg i a l e w m) = again-filled p v B d h e w (again-given2 p v B d (news v) h (m a2) (m a3) ∙ ap some (sym (turn-arg tb g L isfor v i index news env a l)))
         go (fillsCopy a e w m) =
-            Afilled p v B d h e w
-            (Afinal p v B d h ∙ ap (λ (x : Option ℕ). put x (drop (taken (only tb L a3) p) (put (given (only tb L a2) (some (wireOf tb v B))) (drop (taken (only tb L a2) p) (drop (taken (only tb L a1) p) (σ .tok p)))))) (m a3)
+            again-filled p v B d h e w
+            (again-final p v B d h ∙ ap (λ (x : Option ℕ). put x (drop (taken (only tb L a3) p) (put (given (only tb L a2) (some (wireOf tb v B))) (drop (taken (only tb L a2) p) (drop (taken (only tb L a1) p) (σ .tok p)))))) (m a3)
             ∙ ap some (sym (turn-low tb g L isfor v index news env (g .in-before L v a))))
-        go (fillsExit x a l e w n m) = Akept p v B d h (m a2) (m a3) (λ e. omega arith)
-        go (fillsNone a l m) = Akept p v B d h (m a2) (m a3) a
+        go (fillsExit x a l e w n m) = again-kept p v B d h (m a2) (m a3) (λ e. omega arith)
+        go (fillsNone a l m) = again-kept p v B d h (m a2) (m a3) a
 
-    Arecs : (n : Role) → Real tb n → (Inside tb (scope tb n) (tb .first L) → A3 .own n ≡ held tb n env1) × ((Inside tb (scope tb n) (tb .first L) → ⊥) → A3 .own n ≡ rest)
-    Arecs n rl = go (inLoop tb L n) refl
+    again-recs : (n : Role) → Real tb n → (Inside tb (scope tb n) (tb .first L) → A3 .own n ≡ held tb n env1) × ((Inside tb (scope tb n) (tb .first L) → ⊥) → A3 .own n ≡ rest)
+    again-recs n rl = go (inLoop tb L n) refl
       where
         o : (n : Role) → inLoop tb L n ≡ true → A3 .own n ≡ nextBy (a3 n) (nextBy (a2 n) (nextBy (a1 n) (σ .own n)))
         o n h = own3 tb g L isfor a1 a2 a3 σ (G .inners) n h
@@ -399,11 +399,11 @@ module _ (tb : Table) (g : Good tb) (L s t b u c : ℕ) (q : tb .row L ≡ for s
     -- THE STEP of an END, with another turn
     pub step-again : Path tb g env σ (tb .first L) env1 (λ M. sayIf (eqb M L) (1 ∷ [])) (λ M. sayIf (eqb M L) (1 ∷ []))
     step-again =
-        let fd = fired3 tb g L isfor a1 a2 a3 σ (G .inners) Aready1 Aready2 Aready3 in (
+        let fd = fired3 tb g L isfor a1 a2 a3 σ (G .inners) again-ready1 again-ready2 again-ready3 in (
           fd .0,
           A3,
           fd .1,
-          record { values = vals-again; inners = inner3 tb g L isfor a1 a2 a3 σ (G .inners) quiet; records-in = λ n rl. Arecs n rl .0; records-out = λ n rl. Arecs n rl .1 },
+          record { values = vals-again; inners = inner3 tb g L isfor a1 a2 a3 σ (G .inners) quiet; records-in = λ n rl. again-recs n rl .0; records-out = λ n rl. again-recs n rl .1 },
           λ M. hist3 tb g L isfor a1 a2 a3 σ (G .inners) (stream M) out1,
           λ M. hist3 tb g L isfor a1 a2 a3 σ (G .inners) (gate M) out1,
         )
@@ -429,11 +429,11 @@ module _ (tb : Table) (g : Good tb) (L s t b u c : ℕ) (q : tb .row L ≡ for s
     abbrev pub V3 : State
     V3 = S3 tb g L isfor l1 l2 l3 σ (G .inners)
 
-    Vg1 : (p : Use) (v B d : ℕ) → slot tb p ≡ val v B d → given (only tb L l1) (some (wireOf tb v B)) ≡ none
-    Vg1 p v B d h = g-none tb g L isfor l1 refl (λ _. refl) (λ _. refl) (λ _. refl) v B (fills p v B d h)
+    leave-g1 : (p : Use) (v B d : ℕ) → slot tb p ≡ val v B d → given (only tb L l1) (some (wireOf tb v B)) ≡ none
+    leave-g1 p v B d h = g-none tb g L isfor l1 refl (λ _. refl) (λ _. refl) (λ _. refl) v B (fills p v B d h)
 
-    Vruns1 : (n : Role) → inLoop tb L n ≡ true → Runs tb g L isfor l1 σ n
-    Vruns1 =
+    leave-runs1 : (n : Role) → inLoop tb L n ≡ true → Runs tb g L isfor l1 σ n
+    leave-runs1 =
         by-role tb g L isfor (Runs tb g L isfor l1 σ)
         (inr (runs-by (programOf tb (stream L)) σ (stream L) (σ .tok (into (stream L) in0)) (σ .tok (into (stream L) in1)) (σ .tok (into (stream L) in2)) (holding index (env t) (env b))
         (record { takes0 = false; takes1 = false; takes2 = false; gives0 = some index; gives1 = some 0; next = rest }) refl refl refl stream-own
@@ -444,26 +444,26 @@ module _ (tb : Table) (g : Good tb) (L s t b u c : ℕ) (q : tb .row L ≡ for s
         refl refl (carry-token a i h l) (busy (carry a) (arg-in tb L a l (ap isArg h))) refl))
         (λ a i h l. inl refl)
 
-    Vready1 : (n : Role) (d : Effect) → inLoop tb L n ≡ true → l1 n ≡ some d → Ready (plan tb) n d σ
-    Vready1 =
-        ready-all tb g L isfor l1 σ (to-runs tb g L isfor l1 σ Vruns1) (λ p w y h k. G .inners p w h)
-        (λ p v B d y h k. no-gift tb g L isfor (given (only tb L l1) (some (wireOf tb v B))) y (Vg1 p v B d h) k)
+    leave-ready1 : (n : Role) (d : Effect) → inLoop tb L n ≡ true → l1 n ≡ some d → Ready (plan tb) n d σ
+    leave-ready1 =
+        ready-all tb g L isfor l1 σ (to-runs tb g L isfor l1 σ leave-runs1) (λ p w y h k. G .inners p w h)
+        (λ p v B d y h k. no-gift tb g L isfor (given (only tb L l1) (some (wireOf tb v B))) y (leave-g1 p v B d h) k)
 
     -- a value's use after stage 1
-    Vval1 : (p : Use) (v B d : ℕ) → slot tb p ≡ val v B d → V1 .tok p ≡ drop (taken (only tb L l1) p) (σ .tok p)
-    Vval1 p v B d h = tokv tb g L isfor l1 σ p v B d h ∙ ap (λ (x : Option ℕ). put x (drop (taken (only tb L l1) p) (σ .tok p))) (Vg1 p v B d h)
+    leave-val1 : (p : Use) (v B d : ℕ) → slot tb p ≡ val v B d → V1 .tok p ≡ drop (taken (only tb L l1) p) (σ .tok p)
+    leave-val1 p v B d h = tokv tb g L isfor l1 σ p v B d h ∙ ap (λ (x : Option ℕ). put x (drop (taken (only tb L l1) p) (σ .tok p))) (leave-g1 p v B d h)
 
     -- the body's uses are empty then
-    Vbody1 : (p : Use) (v B d : ℕ) → slot tb p ≡ val v B d → B ≡ L → V1 .tok p ≡ none
-    Vbody1 p v B d h e = Vval1 p v B d h ∙ go (taking tb g L isfor p v B d h)
+    leave-body1 : (p : Use) (v B d : ℕ) → slot tb p ≡ val v B d → B ≡ L → V1 .tok p ≡ none
+    leave-body1 p v B d h e = leave-val1 p v B d h ∙ go (taking tb g L isfor p v B d h)
       where
         go : Taking tb g L isfor p B d → drop (taken (only tb L l1) p) (σ .tok p) ≡ none
         go (takenByFor x y z) = absurd (reads-not tb g L isfor (sym z ∙ e))
         go (takenByEnd a i x m l y z) = ap (λ (w : Bool). drop w (σ .tok p)) (takes-yes tb g L isfor p (carry a) in2 x (arg-in tb L a l (ap isArg m)) l1)
         go (takenByNone x y z) = dropped (taken (only tb L l1) p) (σ .tok p) (body-done p v B d h e y)
 
-    Vruns2 : (n : Role) → inLoop tb L n ≡ true → Runs tb g L isfor l2 V1 n
-    Vruns2 =
+    leave-runs2 : (n : Role) → inLoop tb L n ≡ true → Runs tb g L isfor l2 V1 n
+    leave-runs2 =
         by-role tb g L isfor (Runs tb g L isfor l2 V1)
         (inl refl)
         (inr (runs-by (programOf tb (gate L)) V1 (gate L) (some index) (some 0) (V1 .tok (into (gate L) in2)) (inPhase 1) (record { takes0 = true; takes1 = true; takes2 = false; gives0 = none; gives1 = some 0; next = rest })
@@ -474,9 +474,9 @@ module _ (tb : Table) (g : Good tb) (L s t b u c : ℕ) (q : tb .row L ≡ for s
         (λ a i h l. inr (runs-by (programOf tb (argSplit a)) V1 (argSplit a) (some 0) (some (news a)) (V1 .tok (into (argSplit a) in2)) rest (record { takes0 = true; takes1 = true; takes2 = false; gives0 = none; gives1 = some (news a); next = rest })
         (at1 tb g L isfor l1 l2 l3 σ (G .inners) (arg0 a) (l, ap isArg h)) (at1 tb g L isfor l1 l2 l3 σ (G .inners) (arg1 a) (l, ap isArg h)) refl (own-in tb g L isfor l1 σ (argSplit a) (arg-in tb L a l (ap isArg h)) ∙ busy (argSplit a) (arg-in tb L a l (ap isArg h))) refl))
 
-    Vready2 : (n : Role) (d : Effect) → inLoop tb L n ≡ true → l2 n ≡ some d → Ready (plan tb) n d V1
-    Vready2 =
-        ready-all tb g L isfor l2 V1 (to-runs tb g L isfor l2 V1 Vruns2) (room2 tb g L isfor l1 l2 l3 σ (G .inners) rm) (λ p v B d y h z. go p v B d y h z (fills p v B d h))
+    leave-ready2 : (n : Role) (d : Effect) → inLoop tb L n ≡ true → l2 n ≡ some d → Ready (plan tb) n d V1
+    leave-ready2 =
+        ready-all tb g L isfor l2 V1 (to-runs tb g L isfor l2 V1 leave-runs2) (room2 tb g L isfor l1 l2 l3 σ (G .inners) rm) (λ p v B d y h z. go p v B d y h z (fills p v B d h))
       where
         rm : (x : Inlet) (y : ℕ) → giveBy (l2 (inletFrom L x)) (inletOutput x) ≡ some y → flow tb g L isfor l1 x none ≡ none
         rm gate0 y h = no-gift tb g L isfor none y refl h
@@ -489,23 +489,23 @@ module _ (tb : Table) (g : Good tb) (L s t b u c : ℕ) (q : tb .row L ≡ for s
         rm (arg1 a) y h = no-gift tb g L isfor none y refl h
 
         go : (p : Use) (v B d y : ℕ) → slot tb p ≡ val v B d → given (only tb L l2) (some (wireOf tb v B)) ≡ some y → Fill tb g L isfor v B → V1 .tok p ≡ none
-        go p v B d y h z (fillsIndex a e w m) = Vbody1 p v B d h e
-        go p v B d y h z (fillsArg i a l e w m) = Vbody1 p v B d h e
-        go p v B d y h z (fillsCopy a e w m) = Vbody1 p v B d h e
-        go p v B d y h z (fillsExit x a l e w n m) = Vval1 p v B d h ∙ dropped (taken (only tb L l1) p) (σ .tok p) (G .values p v B d h .off (λ k. let k2 = k .2 in omega arith))
+        go p v B d y h z (fillsIndex a e w m) = leave-body1 p v B d h e
+        go p v B d y h z (fillsArg i a l e w m) = leave-body1 p v B d h e
+        go p v B d y h z (fillsCopy a e w m) = leave-body1 p v B d h e
+        go p v B d y h z (fillsExit x a l e w n m) = leave-val1 p v B d h ∙ dropped (taken (only tb L l1) p) (σ .tok p) (G .values p v B d h .off (λ k. let k2 = k .2 in omega arith))
         go p v B d y h z (fillsNone a l m) = no-gift tb g L isfor (given (only tb L l2) (some (wireOf tb v B))) y (m l2) z
 
-    Vruns3 : (n : Role) → inLoop tb L n ≡ true → Runs tb g L isfor l3 V2 n
-    Vruns3 =
+    leave-runs3 : (n : Role) → inLoop tb L n ≡ true → Runs tb g L isfor l3 V2 n
+    leave-runs3 =
         by-role tb g L isfor (Runs tb g L isfor l3 V2)
         (inl refl) (inl refl) (inl refl) (λ v h. inl refl)
         (λ v h. inr (runs-by (programOf tb (copyInvariant L v)) V2 (copyInvariant L v) (some 0) (V2 .tok (into (copyInvariant L v) in1)) (V2 .tok (into (copyInvariant L v) in2)) (holding (env v) 0 0) (record { takes0 = true; takes1 = false; takes2 = false; gives0 = none; gives1 = none; next = rest })
         (at2 tb g L isfor l1 l2 l3 σ (G .inners) (inv0 v) h) refl refl (own2 tb g L isfor l1 l2 l3 σ (G .inners) (copyInvariant L v) (two-in tb L v h) ∙ busy (copyInvariant L v) (two-in tb L v h)) refl))
         (λ a i h l. inl refl) (λ a i h l. inl refl)
 
-    Vready3 : (n : Role) (d : Effect) → inLoop tb L n ≡ true → l3 n ≡ some d → Ready (plan tb) n d V2
-    Vready3 =
-        ready-all tb g L isfor l3 V2 (to-runs tb g L isfor l3 V2 Vruns3) (room3 tb g L isfor l1 l2 l3 σ (G .inners) rm) (λ p v B d y h z. go p v B d y h z (fills p v B d h))
+    leave-ready3 : (n : Role) (d : Effect) → inLoop tb L n ≡ true → l3 n ≡ some d → Ready (plan tb) n d V2
+    leave-ready3 =
+        ready-all tb g L isfor l3 V2 (to-runs tb g L isfor l3 V2 leave-runs3) (room3 tb g L isfor l1 l2 l3 σ (G .inners) rm) (λ p v B d y h z. go p v B d y h z (fills p v B d h))
       where
         rm : (x : Inlet) (y : ℕ) → giveBy (l3 (inletFrom L x)) (inletOutput x) ≡ some y → flow tb g L isfor l2 x (flow tb g L isfor l1 x none) ≡ none
         rm gate0 y h = no-gift tb g L isfor none y refl h
@@ -521,21 +521,21 @@ module _ (tb : Table) (g : Good tb) (L s t b u c : ℕ) (q : tb .row L ≡ for s
         go p v B d y h z (fillsIndex a e w m) = no-gift tb g L isfor (given (only tb L l3) (some (wireOf tb v B))) y (m l3) z
         go p v B d y h z (fillsArg i a l e w m) = no-gift tb g L isfor (given (only tb L l3) (some (wireOf tb v B))) y (m l3) z
         go p v B d y h z (fillsCopy a e w m) =
-            tokv tb g L isfor l2 V1 p v B d h ∙ put-drop-none (given (only tb L l2) (some (wireOf tb v B))) (taken (only tb L l2) p) (V1 .tok p) (m l2) (Vbody1 p v B d h e)
+            tokv tb g L isfor l2 V1 p v B d h ∙ put-drop-none (given (only tb L l2) (some (wireOf tb v B))) (taken (only tb L l2) p) (V1 .tok p) (m l2) (leave-body1 p v B d h e)
         go p v B d y h z (fillsExit x a l e w n m) = no-gift tb g L isfor (given (only tb L l3) (some (wireOf tb v B))) y (m l3) z
         go p v B d y h z (fillsNone a l m) = no-gift tb g L isfor (given (only tb L l3) (some (wireOf tb v B))) y (m l3) z
 
     -- values where the step ends
-    Vfinal : (p : Use) (v B d : ℕ) → slot tb p ≡ val v B d
+    leave-final : (p : Use) (v B d : ℕ) → slot tb p ≡ val v B d
         → V3 .tok p ≡ put (given (only tb L l3) (some (wireOf tb v B))) (drop (taken (only tb L l3) p) (put (given (only tb L l2) (some (wireOf tb v B))) (drop (taken (only tb L l2) p) (drop (taken (only tb L l1) p) (σ .tok p)))))
-    Vfinal p v B d h =
+    leave-final p v B d h =
         tokv tb g L isfor l3 V2 p v B d h
         ∙ ap (λ (x : Option ℕ). put (given (only tb L l3) (some (wireOf tb v B))) (drop (taken (only tb L l3) p) x))
-        (tokv tb g L isfor l2 V1 p v B d h ∙ ap (λ (x : Option ℕ). put (given (only tb L l2) (some (wireOf tb v B))) (drop (taken (only tb L l2) p) x)) (Vval1 p v B d h))
+        (tokv tb g L isfor l2 V1 p v B d h ∙ ap (λ (x : Option ℕ). put (given (only tb L l2) (some (wireOf tb v B))) (drop (taken (only tb L l2) p) x)) (leave-val1 p v B d h))
 
     -- no value's use is taken at stages 2 and 3
-    Vlate : (p : Use) (v B d : ℕ) → slot tb p ≡ val v B d → (taken (only tb L l2) p ≡ false) × (taken (only tb L l3) p ≡ false)
-    Vlate p v B d h = go (taking tb g L isfor p v B d h)
+    leave-late : (p : Use) (v B d : ℕ) → slot tb p ≡ val v B d → (taken (only tb L l2) p ≡ false) × (taken (only tb L l3) p ≡ false)
+    leave-late p v B d h = go (taking tb g L isfor p v B d h)
       where
         both : (m : Role) (i : Input) → p ≡ into m i → inLoop tb L m ≡ true → takeBy (l2 m) i ≡ false → takeBy (l3 m) i ≡ false → (taken (only tb L l2) p ≡ false) × (taken (only tb L l3) p ≡ false)
         both m i e x y z = (takes-yes tb g L isfor p m i e x l2 ∙ y, takes-yes tb g L isfor p m i e x l3 ∙ z)
@@ -559,15 +559,15 @@ module _ (tb : Table) (g : Good tb) (L s t b u c : ℕ) (q : tb .row L ≡ for s
     env0 = nextsTo tb L leaving env
 
     -- what the loop does not give
-    Vkept : (p : Use) (v B d : ℕ) → slot tb p ≡ val v B d → given (only tb L l2) (some (wireOf tb v B)) ≡ none → given (only tb L l3) (some (wireOf tb v B)) ≡ none → ((x : ℕ) → tb .row v ≡ next x → tb .loop v ≡ L → tb .home v ≡ B → ⊥)
+    leave-kept : (p : Use) (v B d : ℕ) → slot tb p ≡ val v B d → given (only tb L l2) (some (wireOf tb v B)) ≡ none → given (only tb L l3) (some (wireOf tb v B)) ≡ none → ((x : ℕ) → tb .row v ≡ next x → tb .loop v ≡ L → tb .home v ≡ B → ⊥)
         → Shows tb (V3 .tok p) v B d (suc (tb .last L)) env0
-    Vkept p v B d h w2 w3 n = go (taking tb g L isfor p v B d h)
+    leave-kept p v B d h w2 w3 n = go (taking tb g L isfor p v B d h)
       where
         us : Used tb v B d
         us = g .uses p v B d h
 
         rest3 : V3 .tok p ≡ drop (taken (only tb L l1) p) (σ .tok p)
-        rest3 = let lt = Vlate p v B d h in let t2 = lt .0 in let t3 = lt .1 in Vfinal p v B d h ∙ rw (w2, w3, t2, t3)
+        rest3 = let lt = leave-late p v B d h in let t2 = lt .0 in let t3 = lt .1 in leave-final p v B d h ∙ rw (w2, w3, t2, t3)
 
         stay : d ≢ tb .last L → taken (only tb L l1) p ≡ false → Shows tb (V3 .tok p) v B d (suc (tb .last L)) env0
         stay nd a1 =
@@ -603,9 +603,9 @@ module _ (tb : Table) (g : Good tb) (L s t b u c : ℕ) (q : tb .row L ≡ for s
         beyond (around y z) lo hi = z
 
         go : Fill tb g L isfor v B → Shows tb (V3 .tok p) v B d (suc (tb .last L)) env0
-        go (fillsIndex a e w m) = Vkept p v B d h (m l2) (m l3) (λ x r _ _. let r′ : tb .row L ≡ next x = ap (tb .row) (sym a) ∙ r in let z : _≡_ {A = ℕ} 0 1 = cc in omega arith)
-        go (fillsArg i a l e w m) = Vkept p v B d h (m l2) (m l3) (λ x r _ _. let z : _≡_ {A = ℕ} 0 1 = cc in omega arith)
-        go (fillsCopy a e w m) = Vkept p v B d h (m l2) (m l3) (λ x r _ y. g .in-home L v a (y ∙ e))
+        go (fillsIndex a e w m) = leave-kept p v B d h (m l2) (m l3) (λ x r _ _. let r′ : tb .row L ≡ next x = ap (tb .row) (sym a) ∙ r in let z : _≡_ {A = ℕ} 0 1 = cc in omega arith)
+        go (fillsArg i a l e w m) = leave-kept p v B d h (m l2) (m l3) (λ x r _ _. let z : _≡_ {A = ℕ} 0 1 = cc in omega arith)
+        go (fillsCopy a e w m) = leave-kept p v B d h (m l2) (m l3) (λ x r _ y. g .in-home L v a (y ∙ e))
         go (fillsExit x a l e w n m) =
             let us = g .uses p v B d h in
             let nb : since tb v B ≤ d = us .named-before in
@@ -614,17 +614,17 @@ module _ (tb : Table) (g : Good tb) (L s t b u c : ℕ) (q : tb .row L ≡ for s
             let ff = g .for-first L isfor in
             let fl = g .for-last L isfor in
             let hi : tb .last L < tb .last B = beyond (rel tb g B L (us .body) isfor (λ z. reads-not tb g L isfor (sym e ∙ z))) lo (i .high) in
-            let lt = Vlate p v B d h in
+            let lt = leave-late p v B d h in
             let t3 = lt .1 in
             let m2 = m l2 in
             let m3 = m l3 in
             shows-some tb (V3 .tok p) v B d (suc (tb .last L)) env0
-            (Vfinal p v B d h ∙ rw (m2, m3, t3) (ap some (sym (nexts-same tb L leaving env v l (ap isNext a)))))
+            (leave-final p v B d h ∙ rw (m2, m3, t3) (ap some (sym (nexts-same tb L leaving env v l (ap isNext a)))))
             (omega arith, omega arith, omega arith, omega arith)
-        go (fillsNone a l m) = Vkept p v B d h (m l2) (m l3) l
+        go (fillsNone a l m) = leave-kept p v B d h (m l2) (m l3) l
 
-    Vrecs : (n : Role) → Real tb n → (Inside tb (scope tb n) (suc (tb .last L)) → V3 .own n ≡ held tb n env0) × ((Inside tb (scope tb n) (suc (tb .last L)) → ⊥) → V3 .own n ≡ rest)
-    Vrecs n rl = go (inLoop tb L n) refl
+    leave-recs : (n : Role) → Real tb n → (Inside tb (scope tb n) (suc (tb .last L)) → V3 .own n ≡ held tb n env0) × ((Inside tb (scope tb n) (suc (tb .last L)) → ⊥) → V3 .own n ≡ rest)
+    leave-recs n rl = go (inLoop tb L n) refl
       where
         o : (n : Role) → inLoop tb L n ≡ true → V3 .own n ≡ nextBy (l3 n) (nextBy (l2 n) (nextBy (l1 n) (σ .own n)))
         o n h = own3 tb g L isfor l1 l2 l3 σ (G .inners) n h
@@ -654,11 +654,11 @@ module _ (tb : Table) (g : Good tb) (L s t b u c : ℕ) (q : tb .row L ≡ for s
     -- THE STEP of an END, that leaves
     pub step-leave : Path tb g env σ (suc (tb .last L)) env0 (λ M. sayIf (eqb M L) (0 ∷ [])) (λ M. sayIf (eqb M L) (0 ∷ []))
     step-leave =
-        let fd = fired3 tb g L isfor l1 l2 l3 σ (G .inners) Vready1 Vready2 Vready3 in (
+        let fd = fired3 tb g L isfor l1 l2 l3 σ (G .inners) leave-ready1 leave-ready2 leave-ready3 in (
           fd .0,
           V3,
           fd .1,
-          record { values = vals-leave; inners = inner3 tb g L isfor l1 l2 l3 σ (G .inners) quiet; records-in = λ n rl. Vrecs n rl .0; records-out = λ n rl. Vrecs n rl .1 },
+          record { values = vals-leave; inners = inner3 tb g L isfor l1 l2 l3 σ (G .inners) quiet; records-in = λ n rl. leave-recs n rl .0; records-out = λ n rl. leave-recs n rl .1 },
           λ M. hist3 tb g L isfor l1 l2 l3 σ (G .inners) (stream M) out1,
           λ M. hist3 tb g L isfor l1 l2 l3 σ (G .inners) (gate M) out1,
         )

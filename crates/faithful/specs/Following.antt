@@ -66,21 +66,6 @@ module _ (t : List ℕ) (S : Structure t) where
 
   -- ---- the words of the rows, set as the reading sets them
 
-  kind-arg : (v : ℕ) → eqb (kindOf t v) 5 ≡ isArg (tb .row v)
-  kind-arg v = elim (decLt v (size t)) [ yes l ↦ go (tb .row v) (Tables.row-kind t S v l) | no n ↦ rw (Tables.kind-past t S v (omega arith), Tables.row-past t v (omega arith)) ]
-    where
-      go : (d : Row) → Tables.rowKind d ≡ kindOf t v → eqb (kindOf t v) 5 ≡ isArg d
-      go input e = rw (sym e)
-      go (const w) e = rw (sym e)
-      go (op c x y) e = rw (sym e)
-      go (pick f x y) e = rw (sym e)
-      go (for s st b u c) e = rw (sym e)
-      go (arg i) e = rw (sym e)
-      go (next x) e = rw (sym e)
-      go end e = rw (sym e)
-      go (out x) e = rw (sym e)
-      go unknown e = rw (sym e)
-
   kind-next : (v : ℕ) → eqb (kindOf t v) 6 ≡ isNext (tb .row v)
   kind-next v = elim (decLt v (size t)) [ yes l ↦ go (tb .row v) (Tables.row-kind t S v l) | no n ↦ rw (Tables.kind-past t S v (omega arith), Tables.row-past t v (omega arith)) ]
     where
@@ -98,7 +83,7 @@ module _ (t : List ℕ) (S : Structure t) where
 
   arg-test : (L v : ℕ) → Bodies.isArg t L v ≡ (eqb (bodyOf t v) L && isArg (tb .row v))
   unfolding Bodies.isArg
-  arg-test L v = and-flip (eqb (kindOf t v) 5) (eqb (bodyOf t v) L) ∙ ap (λ (b : Bool). eqb (bodyOf t v) L && b) (kind-arg v)
+  arg-test L v = and-flip (eqb (kindOf t v) 5) (eqb (bodyOf t v) L) ∙ ap (λ (b : Bool). eqb (bodyOf t v) L && b) (Tables.kind-arg t S v)
 
   next-test : (L v : ℕ) → Bodies.isNext t L v ≡ (eqb (bodyOf t v) L && isNext (tb .row v))
   unfolding Bodies.isNext

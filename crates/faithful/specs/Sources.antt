@@ -92,21 +92,6 @@ module _ (t : List ℕ) (S : Structure t) where
       go (out x) e = rw (sym e)
       go unknown e = rw (sym e)
 
-  kind-arg : (a : ℕ) → isArg (tb .row a) ≡ eqb (kindOf t a) 5
-  kind-arg a = elim (decLt a (size t)) [ yes l ↦ go (tb .row a) (Tables.row-kind t S a l) | no n ↦ rw (Tables.kind-past t S a (omega arith), Tables.row-past t a (omega arith)) ]
-    where
-      go : (d : Row) → Tables.rowKind d ≡ kindOf t a → isArg d ≡ eqb (kindOf t a) 5
-      go input e = rw (sym e)
-      go (const w) e = rw (sym e)
-      go (op c x y) e = rw (sym e)
-      go (pick f x y) e = rw (sym e)
-      go (for s st b u c) e = rw (sym e)
-      go (arg i) e = rw (sym e)
-      go (next x) e = rw (sym e)
-      go end e = rw (sym e)
-      go (out x) e = rw (sym e)
-      go unknown e = rw (sym e)
-
   kind-op : (r : ℕ) → Table.isOp tb (tb .row r) ≡ (eqb (kindOf t r) 2 || eqb (kindOf t r) 3)
   kind-op r = elim (decLt r (size t)) [ yes l ↦ go (tb .row r) (Tables.row-kind t S r l) | no n ↦ rw (Tables.kind-past t S r (omega arith), Tables.row-past t r (omega arith)) ]
     where
@@ -243,12 +228,12 @@ module _ (t : List ℕ) (S : Structure t) where
   carry-source : (a : ℕ) (d : Row) → tb .row a ≡ d → (k : Input)
       → slotWire tb (carrySlot d (reads t (bodyOf t a)) (bodyOf t a) (Table.named (tb .row (nextOf t a))) (tb .last (bodyOf t a)) k) ≡ source t (into (carry a) k)
   unfolding operandCount
-  carry-source a (arg i) q in0 = sym (node-feed t (carry a) in0 (sym (kind-arg a) ∙ ap isArg q))
+  carry-source a (arg i) q in0 = sym (node-feed t (carry a) in0 (Tables.kind-arg t S a ∙ ap isArg q))
   carry-source a (arg i) q in1 =
       let w = Tables.arg-words t S a i q in
       let A = S .arg-row a (w .0) (w .1) in
       operand-wire a 0 i (reads t (bodyOf t a)) (w .0) (counts a 5 1 (w .1) refl 0 (omega arith)) (w .2) (S .arg-reads a (w .0) (w .1) ∙ sym (S .reads-body (bodyOf t a) (λ z. let k = A .loop-for in omega arith)))
-      ∙ sym (node-feed t (carry a) in1 (sym (kind-arg a) ∙ ap isArg q))
+      ∙ sym (node-feed t (carry a) in1 (Tables.kind-arg t S a ∙ ap isArg q))
   carry-source a (arg i) q in2 =
       let w = Tables.arg-words t S a i q in
       let A = S .arg-row a (w .0) (w .1) in
@@ -258,22 +243,22 @@ module _ (t : List ℕ) (S : Structure t) where
       let n = Tables.next-words t S x (word t x 1) e in
       operand-wire x 0 (Table.named (tb .row x)) (bodyOf t a) lx (counts x 6 1 (A .next-kind) refl 0 (omega arith)) (n .2 ∙ sym (ap Table.named e))
       (S .reads-body x (λ z. let k = A .next-kind in omega arith) ∙ A .next-body)
-      ∙ sym (node-feed t (carry a) in2 (sym (kind-arg a) ∙ ap isArg q))
-  carry-source a input q k = sym (none-there (carry a) k (sym (kind-arg a) ∙ ap isArg q))
-  carry-source a (const x) q k = sym (none-there (carry a) k (sym (kind-arg a) ∙ ap isArg q))
-  carry-source a (op c x y) q k = sym (none-there (carry a) k (sym (kind-arg a) ∙ ap isArg q))
-  carry-source a (pick f x y) q k = sym (none-there (carry a) k (sym (kind-arg a) ∙ ap isArg q))
-  carry-source a (for s st b u c) q k = sym (none-there (carry a) k (sym (kind-arg a) ∙ ap isArg q))
-  carry-source a (next x) q k = sym (none-there (carry a) k (sym (kind-arg a) ∙ ap isArg q))
-  carry-source a end q k = sym (none-there (carry a) k (sym (kind-arg a) ∙ ap isArg q))
-  carry-source a (out x) q k = sym (none-there (carry a) k (sym (kind-arg a) ∙ ap isArg q))
-  carry-source a unknown q k = sym (none-there (carry a) k (sym (kind-arg a) ∙ ap isArg q))
+      ∙ sym (node-feed t (carry a) in2 (Tables.kind-arg t S a ∙ ap isArg q))
+  carry-source a input q k = sym (none-there (carry a) k (Tables.kind-arg t S a ∙ ap isArg q))
+  carry-source a (const x) q k = sym (none-there (carry a) k (Tables.kind-arg t S a ∙ ap isArg q))
+  carry-source a (op c x y) q k = sym (none-there (carry a) k (Tables.kind-arg t S a ∙ ap isArg q))
+  carry-source a (pick f x y) q k = sym (none-there (carry a) k (Tables.kind-arg t S a ∙ ap isArg q))
+  carry-source a (for s st b u c) q k = sym (none-there (carry a) k (Tables.kind-arg t S a ∙ ap isArg q))
+  carry-source a (next x) q k = sym (none-there (carry a) k (Tables.kind-arg t S a ∙ ap isArg q))
+  carry-source a end q k = sym (none-there (carry a) k (Tables.kind-arg t S a ∙ ap isArg q))
+  carry-source a (out x) q k = sym (none-there (carry a) k (Tables.kind-arg t S a ∙ ap isArg q))
+  carry-source a unknown q k = sym (none-there (carry a) k (Tables.kind-arg t S a ∙ ap isArg q))
 
   arg-source : (a : ℕ) (b : Bool) → isArg (tb .row a) ≡ b → (k : Input) → slotWire tb (argSplitSlot b (bodyOf t a) a k) ≡ source t (into (argSplit a) k)
-  arg-source a false e k = sym (none-there (argSplit a) k (sym (kind-arg a) ∙ e))
-  arg-source a true e in0 = sym (node-feed t (argSplit a) in0 (sym (kind-arg a) ∙ e))
-  arg-source a true e in1 = sym (node-feed t (argSplit a) in1 (sym (kind-arg a) ∙ e))
-  arg-source a true e in2 = sym (node-feed t (argSplit a) in2 (sym (kind-arg a) ∙ e))
+  arg-source a false e k = sym (none-there (argSplit a) k (Tables.kind-arg t S a ∙ e))
+  arg-source a true e in0 = sym (node-feed t (argSplit a) in0 (Tables.kind-arg t S a ∙ e))
+  arg-source a true e in1 = sym (node-feed t (argSplit a) in1 (Tables.kind-arg t S a ∙ e))
+  arg-source a true e in2 = sym (node-feed t (argSplit a) in2 (Tables.kind-arg t S a ∙ e))
 
   -- ---- results
 

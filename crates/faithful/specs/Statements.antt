@@ -6,6 +6,7 @@
 --   every-run-is-complete             so every run with that allowance, whatever its list, answers COMPLETE in that state
 --   zero-step-is-never-complete       where the reading meets a zero step, every order that rests answers ZERO STEP
 --   no-run-completes-a-fault          so no run, whatever its list and allowance, answers COMPLETE there
+--   written-table-is-checked          the hypothesis on the table holds of every table that `lower` has written
 --
 -- The words: `t` is a table's words, `loweredWords t` its graph's words, `loadedTable t inputs` the freshly loaded state's words.
 -- The hypotheses, once for all:
@@ -22,12 +23,12 @@
 -- Assumes nothing.
 use mathlib.Core.Path.{_≡_, refl, sym, ap, _∙_, subst}
 use mathlib.Core.Logic.{_≢_, _⊎_, inl, inr}
-use mathlib.Core.Bool.{Bool, true, false, cond}
-use mathlib.Core.List.{List, reverse}
+use mathlib.Core.Bool.{Bool, true, false, cond, _&&_}
+use mathlib.Core.List.{List, _++_, reverse}
 use Prim.Native.Nat.{ℕ, _+_, _≤_}
 use native.Mathlib.Omega.{arith}
 use borrow.Author.Tests.{eqb-true}
-use lib.Dec.{eqb}
+use lib.Dec.{eqb, leb}
 use lib.ListN.{length}
 use Rattle.step.specs.Kinds.{out1}
 use Rattle.graph.specs.Graph.{nodeCount}
@@ -44,7 +45,7 @@ use Rattle.reading.specs.Reading.{Opening, Outcome, ended, zeroStep, begin, rea
 use Rattle.reading.specs.Outcome.{Reads}
 use Rattle.lowered.specs.Roles.{stream, gate, output}
 use Rattle.lowered.specs.Lower.{wireNumber, loweredWords}
-use Rattle.lowered.specs.Room.{checkAnswer, refusedBy, hasRoom}
+use Rattle.lowered.specs.Room.{hasRoom, fitsInto, refusedBy, checkAnswer, lowerRefusal}
 use Rattle.laid.specs.Answers.{number-0-is-no-refusal, checked-table-lowers}
 use Rattle.faithful.specs.Conditions.{turnsOf, turns-reverse, rawOf, gatedOf}
 use Rattle.faithful.specs.Table.{IsFor}
@@ -87,6 +88,9 @@ pub record Faithful (t inputs words : List ℕ) (openings : List Opening) (F : �
   pub at-most : length order ≤ F
   -- it can be extended until it rests
   pub extends : (more : List ℕ) × (v : List ℕ) × Fires (loweredWords t) more u v × AtRest (loweredWords t) v × (length order + length more ≡ F)
+  -- at any moment the words that have passed on a loop's conditions are the first of those that will have
+  pub raw-so-far : (L : ℕ) → kindOf t L ≡ FOR → (rest : List ℕ) × (putOnWire (loweredWords t) order (loadedTable t inputs) (rawWire t L) ++ rest ≡ rawOf (turnsOf L openings))
+  pub gated-so-far : (L : ℕ) → kindOf t L ≡ FOR → (rest : List ℕ) × (putOnWire (loweredWords t) order (loadedTable t inputs) (gatedWire t L) ++ rest ≡ gatedOf (turnsOf L openings))
   -- and if it rests, it ends as the reading does
   pub ends : AtRest (loweredWords t) u → EndsAsRead t inputs words openings F order u
 
@@ -99,6 +103,17 @@ passes t h = number-0-is-no-refusal t (go (eqb (tableRefusal t .number) 0) refl 
     go : (b : Bool) → eqb (tableRefusal t .number) 0 ≡ b → cond b (cond (hasRoom t) (answer 0 0) (answer 10 (size t))) (tableRefusal t) .number ≡ 0 → tableRefusal t .number ≡ 0
     go true e k = eqb-true (tableRefusal t .number) 0 e
     go false e k = k
+
+-- A table that `lower` has written into so many lent words is checked: what follows holds of every graph that `lower` writes.
+pub written-table-is-checked : (t : List ℕ) (lent : ℕ) → lowerRefusal t lent .number ≡ 0 → checkAnswer t .number ≡ 0
+unfolding lowerRefusal checkAnswer refusedBy fitsInto
+written-table-is-checked t lent = go (eqb (tableRefusal t .number) 0) (hasRoom t) (leb (length (loweredWords t)) lent)
+  where
+    go : (b room fits : Bool) → cond b (cond (room && fits) (answer 0 0) (answer 10 (size t))) (tableRefusal t) .number ≡ 0
+        → cond b (cond room (answer 0 0) (answer 10 (size t))) (tableRefusal t) .number ≡ 0
+    go true true fits h = refl
+    go true false fits h = h
+    go false room fits h = h
 
 module _ (t : List ℕ) (checked : checkAnswer t .number ≡ 0) where
   abbrev S : Structure t
@@ -158,6 +173,8 @@ module _ (t : List ℕ) (checked : checkAnswer t .number ≡ 0) where
             record {
               at-most = a .at-most;
               extends = (a .extends .0, w .1, a .extends .1, w .3, a .extends .2);
+              raw-so-far = λ L k. (putOnWire (loweredWords t) (a .extends .0) u (rawWire t L), a .extends .3 (rawWire t L) ∙ w .5 .raw L k);
+              gated-so-far = λ L k. (putOnWire (loweredWords t) (a .extends .0) u (gatedWire t L), a .extends .3 (gatedWire t L) ∙ w .5 .gated L k);
               ends = λ h.
                   let A = subst (AsRead t words) (sym (a .same-words h)) (w .4) in
                   record {

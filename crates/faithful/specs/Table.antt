@@ -371,21 +371,21 @@ whether-one (suc x) a b h k = h
 
 carry-one : (n : ℕ) → OneOut (Machines.carry n)
 carry-one zero = λ x. refl
-carry-one (suc zero) = λ x. whether-one x (give none none (inPhase 2)) (give none none rest) refl refl
+carry-one (suc zero) = λ x. whether-one x _ _ refl refl
 carry-one (suc (suc zero)) = λ x. refl
 carry-one (suc (suc (suc n))) = tt
 
-inv-one : (r : Record) (n : ℕ) → OneOut (Machines.invariant r n)
-inv-one r zero = λ x. refl
-inv-one r (suc zero) = λ x. whether-one x (give (some (r .r0)) none (holding (r .r0) 0 0)) (give none none rest) refl refl
-inv-one r (suc (suc n)) = tt
+invariant-one : (r : Record) (n : ℕ) → OneOut (Machines.invariant r n)
+invariant-one r zero = λ x. refl
+invariant-one r (suc zero) = λ x. whether-one x _ _ refl refl
+invariant-one r (suc (suc n)) = tt
 
 operator-one : (c n : ℕ) → OneOut (Machines.operator c n)
 operator-one c zero = λ x y. refl
 operator-one c (suc n) = tt
 
 picker-one : (n : ℕ) → OneOut (Machines.picker n)
-picker-one zero = λ a b c. whether-one a (give (some b) none rest) (give (some c) none rest) refl refl
+picker-one zero = λ a b c. whether-one a _ _ refl refl
 picker-one (suc n) = tt
 
 op-one : (d : Row) (r : Record) → OneOut (opProgram d r)
@@ -434,7 +434,7 @@ has-out tb (stream L) r v e q out1 y h = tt
 has-out tb (gate L) r v e q out1 y h = tt
 has-out tb (guard L) r v e q out1 y h = not-both (gives e out1) y (one-out (programOf tb (guard L) r) (guard-one (tb .row L) r) v e q) h
 has-out tb (copySplit L x) r v e q out1 y h = tt
-has-out tb (copyInvariant L x) r v e q out1 y h = not-both (gives e out1) y (one-out (programOf tb (copyInvariant L x) r) (inv-one r (r .phase)) v e q) h
+has-out tb (copyInvariant L x) r v e q out1 y h = not-both (gives e out1) y (one-out (programOf tb (copyInvariant L x) r) (invariant-one r (r .phase)) v e q) h
 has-out tb (carry a) r v e q out1 y h = not-both (gives e out1) y (one-out (programOf tb (carry a) r) (carry-one (r .phase)) v e q) h
 has-out tb (argSplit a) r v e q out1 y h = tt
 

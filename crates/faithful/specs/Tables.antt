@@ -20,7 +20,7 @@ use Rattle.table.specs.Scan.{bodyOf, reads, home}
 use Rattle.table.specs.Bodies.{Row, input, const, op, pick, for, arg, next, end, out, unknown, rowBy, rowAt, operand, endOf, firstOf, argOf, nextOf}
 use Rattle.structure.specs.Structure.{Structure}
 use Rattle.lowered.specs.Sources.{isFor, carried}
-use Rattle.faithful.specs.Table.{Table, IsFor}
+use Rattle.faithful.specs.Table.{Table, IsFor, isArg}
 
 -- no END and no OUT has a value; they are put in the outermost body
 abbrev pub homeIn : List ℕ → ℕ → ℕ
@@ -132,6 +132,22 @@ module _ (t : List ℕ) where
     pub row-kind : (r : ℕ) → r < size t → rowKind (tableOf t .row r) ≡ kindOf t r
     unfolding rowAt
     row-kind r l = ap rowKind (row-at r l) ∙ kind-by (kindOf t r) (word t r 1) (word t r 2) (word t r 3) (word t r 4) (word t r 5) (S .kinds r l)
+
+    -- an ARG by its kind, by its form
+    pub kind-arg : (v : ℕ) → eqb (kindOf t v) 5 ≡ isArg (tableOf t .row v)
+    kind-arg v = elim (decLt v (size t)) [ yes l ↦ go (tableOf t .row v) (row-kind v l) | no n ↦ rw (kind-past v (omega arith), row-past v (omega arith)) ]
+      where
+        go : (d : Row) → rowKind d ≡ kindOf t v → eqb (kindOf t v) 5 ≡ isArg d
+        go input e = rw (sym e)
+        go (const w) e = rw (sym e)
+        go (op c x y) e = rw (sym e)
+        go (pick f x y) e = rw (sym e)
+        go (for s st b u c) e = rw (sym e)
+        go (arg i) e = rw (sym e)
+        go (next x) e = rw (sym e)
+        go end e = rw (sym e)
+        go (out x) e = rw (sym e)
+        go unknown e = rw (sym e)
 
     -- the operands of each form of row
     pub op-words : (r c x y : ℕ) → tableOf t .row r ≡ op c x y → (r < size t) × (kindOf t r ≡ 2) × (word t r 1 ≡ c) × (operand t r 0 ≡ x) × (operand t r 1 ≡ y)

@@ -2,12 +2,17 @@
 ghost use mathlib.Core.Path.{_≡_};
 ghost use Prim.Native.Nat.{_+_, _*_, _<_, _≤_};
 ghost use lib.ListN.{length, getD};
-ghost use Rattle.table.specs.Rows.{kindOf, size};
+ghost use Rattle.table.specs.Rows.{kindOf, word, size, operandCount, firstOperand};
+ghost use Rattle.table.specs.Bodies.{operand};
 ghost use Rattle.table.specs.Scan.{bodyOf, home, reads};
-ghost use Rattle.lowering.specs.Kept.{Passing, Bodies, markPlace, OnTheWay, Marks};
+ghost use Rattle.lowering.specs.Kept.{Passing, Bodies, markPlace, OnTheWay, Marks, RowMarks, Marked};
 
 // The kinds of rows.
 const CONST: u32 = 1;
+
+const OP: u32 = 2;
+
+const PICK: u32 = 3;
 
 const FOR: u32 = 4;
 
@@ -17,11 +22,43 @@ const NEXT: u32 = 6;
 
 const END: u32 = 7;
 
+const OUT: u32 = 8;
+
 fn kind_at(table: &[u32], r: u32) -> u32
     requires { ⌜ (r < size (now table)) × (r < 512) ⌝ }
     ensures { λ k. ⌜ k ≡ kindOf (now (table .entry)) r ⌝ }
 {
     table[(6 * r) as usize]
+}
+
+// How many values a row of this kind names.
+fn operand_count(kind: u32) -> u32
+    ensures { λ r. ⌜ (r ≡ operandCount kind) × (r ≤ 3) ⌝ }
+{
+    match kind {
+        OP => 2,
+        PICK => 3,
+        FOR => 3,
+        ARG => 1,
+        NEXT => 1,
+        OUT => 1,
+        _ => 0,
+    }
+}
+
+fn first_operand(kind: u32) -> u32
+    ensures { λ r. ⌜ (r ≡ firstOperand kind) × (1 ≤ r) × (r ≤ 2) ⌝ }
+{
+    if kind == OP { 2 } else { 1 }
+}
+
+// The j-th operand of row r.
+fn operand_at(table: &[u32], r: u32, j: u32) -> u32
+    requires { ⌜ (r < size (now table)) × (r < 512) × (j < 3) ⌝ }
+    ensures { λ w. ⌜ w ≡ operand (now (table .entry)) r j ⌝ }
+{
+    let k = first_operand(kind_at(table, r)) + j;
+    table[(6 * r + k) as usize]
 }
 
 fn body_at(bodies: &[u32; 512], r: u32) -> u32
@@ -110,4 +147,32 @@ fn carry_in(
     }
     marks[(512 * b + v) as usize] = 1;
     carry_in(table, n, bodies, marks, v, h, body_at(bodies, b));
+}
+
+// Marks the ways of row r's operands.
+fn mark_row(table: &[u32], n: u32, bodies: &[u32; 512], marks: &mut [u32; 262144], r: u32)
+    requires { ⌜ Passing (now table) n × Bodies (now table) n (now bodies) × (r < n) × (length (now marks) ≡ 262144) ⌝ }
+    ensures { λ u. ⌜ RowMarks (now (table .entry)) r (operandCount (kindOf (now (table .entry)) r)) (now (marks .entry)) (now (marks .exit)) ⌝ }
+{
+    let m = operand_count(kind_at(table, r));
+    let b = reads_of(table, n, bodies, r);
+    let mut j: u32 = 0;
+    while j < m {
+        let v = operand_at(table, r, j);
+        let h = home_of(table, n, bodies, v);
+        carry_in(table, n, bodies, marks, v, h, b);
+        j += 1;
+    }
+}
+
+// Marks, for each loop and value, whether the value is carried into the loop.
+fn mark_rows(table: &[u32], n: u32, bodies: &[u32; 512], marks: &mut [u32; 262144])
+    requires { ⌜ Passing (now table) n × Bodies (now table) n (now bodies) × Marked (now table) 0 (now marks) ⌝ }
+    ensures { λ u. ⌜ Marked (now (table .entry)) n (now (marks .exit)) ⌝ }
+{
+    let mut r: u32 = 0;
+    while r < n {
+        mark_row(table, n, bodies, marks, r);
+        r += 1;
+    }
 }

@@ -1,8 +1,9 @@
-use Rattle.lowering.proofs.Marking.{rank, stop, way-on, below, noted, in-marks, rank-below, still-long, go-on}
-use native.Mathlib.Omega.{arith}
+-- `lowering::carry_in` meets its contract. It calls itself for the enclosing loop: the rank of the body falls, until home is reached. Assumes nothing.
 use Prim.Native.Nat.{ℕ, _+_, _*_, _<_}
+use native.Mathlib.Omega.{arith}
 use borrow.Fn.Kinds.{In}
 use borrow.Fn.PlainCycle.{Measures, is, falls, and}
+use Rattle.lowering.proofs.Marking.{rank, stop, way-on, below, noted, in-marks, rank-below, still-long, go-on}
 use Rattle.lowering.proofs.carry_in.Reads as carry-in
 use Rattle.lowering.proofs.carry_in.Kinds as carry-in-kinds
 use Rattle.lowering.proofs.+carry_in.Lts-carry_in as carry-in-lts
@@ -20,7 +21,6 @@ abbrev carry-in-below : ℕ → In 3 carry-in-kinds.ps
 carry-in-below t =
     and 3 carry-in-kinds.ps (falls 3 carry-in-kinds.ps _<_ μ-carry-in t) carry-in.Pre
 
--- src/lib.rt:101:9
 carry-in-returns : (t : ℕ) → carry-in-lts.Need-returns (
   body-at-reads.Asked,
   body-at-reads.Learnt,
@@ -29,7 +29,6 @@ carry-in-returns : (t : ℕ) → carry-in-lts.Need-returns (
 ) (carry-in-at t) carry-in.Post
 carry-in-returns t c = let P = c .before .before .pre .1 in stop _ _ (P .0) _ _ _ _ (P .3) (c .if1 .taken)
 
--- src/lib.rt:103:12
 carry-in-mul-marks : (t : ℕ) → carry-in-lts.Need-mul-marks (
   body-at-reads.Asked,
   body-at-reads.Learnt,
@@ -38,7 +37,6 @@ carry-in-mul-marks : (t : ℕ) → carry-in-lts.Need-mul-marks (
 ) (carry-in-at t) carry-in.Post
 carry-in-mul-marks t c = let P = c .before .before .pre .1 in let z = in-marks _ _ (P .0) _ _ _ (P .3) (c .if1 .left) (P .4) (P .2) in let z0 = z .0 in let z1 = z .1 in omega arith
 
--- src/lib.rt:103:12
 carry-in-add-marks : (t : ℕ) → carry-in-lts.Need-add-marks (
   body-at-reads.Asked,
   body-at-reads.Learnt,
@@ -47,7 +45,6 @@ carry-in-add-marks : (t : ℕ) → carry-in-lts.Need-add-marks (
 ) (carry-in-at t) carry-in.Post
 carry-in-add-marks t c = let P = c .before .before .pre .1 in let z = in-marks _ _ (P .0) _ _ _ (P .3) (c .if1 .left) (P .4) (P .2) in let z0 = z .0 in let z1 = z .1 in omega arith
 
--- src/lib.rt:103:11
 carry-in-cast-marks : (t : ℕ) → carry-in-lts.Need-cast-marks (
   body-at-reads.Asked,
   body-at-reads.Learnt,
@@ -56,7 +53,6 @@ carry-in-cast-marks : (t : ℕ) → carry-in-lts.Need-cast-marks (
 ) (carry-in-at t) carry-in.Post
 carry-in-cast-marks t c = let P = c .before .before .pre .1 in let z = in-marks _ _ (P .0) _ _ _ (P .3) (c .if1 .left) (P .4) (P .2) in let z0 = z .0 in let z1 = z .1 in omega arith
 
--- src/lib.rt:103:5
 carry-in-mul-marks-2 : (t : ℕ) → carry-in-lts.Need-mul-marks-2 (
   body-at-reads.Asked,
   body-at-reads.Learnt,
@@ -65,7 +61,6 @@ carry-in-mul-marks-2 : (t : ℕ) → carry-in-lts.Need-mul-marks-2 (
 ) (carry-in-at t) carry-in.Post
 carry-in-mul-marks-2 t c = let P = c .before .before .pre .1 in let z = in-marks _ _ (P .0) _ _ _ (P .3) (c .if1 .left) (P .4) (P .2) in let z0 = z .0 in let z1 = z .1 in omega arith
 
--- src/lib.rt:103:5
 carry-in-element-write-marks : (t : ℕ) → carry-in-lts.Need-element-write-marks (
   body-at-reads.Asked,
   body-at-reads.Learnt,
@@ -74,7 +69,6 @@ carry-in-element-write-marks : (t : ℕ) → carry-in-lts.Need-element-write-mar
 ) (carry-in-at t) carry-in.Post
 carry-in-element-write-marks t c = let P = c .before .before .pre .1 in let z = in-marks _ _ (P .0) _ _ _ (P .3) (c .if1 .left) (P .4) (P .2) in let z0 = z .0 in let z1 = z .1 in omega arith
 
--- src/lib.rt:104:45
 carry-in-body-at-requires : (t : ℕ) → carry-in-lts.Need-body-at-requires (
   body-at-reads.Asked,
   body-at-reads.Learnt,
@@ -83,7 +77,6 @@ carry-in-body-at-requires : (t : ℕ) → carry-in-lts.Need-body-at-requires (
 ) (carry-in-at t) carry-in.Post
 carry-in-body-at-requires t c κs = let P = c .before .before .before .pre .1 in in-marks _ _ (P .0) _ _ _ (P .3) (c .before .if1 .left) (P .4) (P .2) .0
 
--- src/lib.rt:104:5
 carry-in-carry-in-requires : (t : ℕ) → carry-in-lts.Need-carry-in-requires (
   body-at-reads.Asked,
   body-at-reads.Learnt,
@@ -99,7 +92,6 @@ carry-in-carry-in-requires t c κs = let Q = c .before .before .before .before .
       (P .0, P .1, P .2, P .3, way-on _ _ (P .0) _ _ _ _ (P .3) (c .before .before .if1 .left) (P .4) x, still-long (A .marks .now) (512 * A .b + A .v) 1 (P .5)),
     )
 
--- src/lib.rt:96:1
 carry-in-returns-2 : (t : ℕ) → carry-in-lts.Need-returns-2 (
   body-at-reads.Asked,
   body-at-reads.Learnt,
