@@ -7,7 +7,7 @@ ghost use lib.ListN.{length};
 
 const MOST: u32 = 8192;
 
-fn word_at(words: &[u32], i: usize) -> u32 {
+pub fn word_at(words: &[u32], i: usize) -> u32 {
     if i < words.len() {
         return words[i];
     }
@@ -15,7 +15,7 @@ fn word_at(words: &[u32], i: usize) -> u32 {
 }
 
 // A count of the header, or 0 where it is past every limit.
-fn count_at(graph: &[u32], i: usize) -> usize
+pub fn count_at(graph: &[u32], i: usize) -> usize
     ensures { λ r. ⌜ r ≤ 8192 ⌝ }
 {
     let n = word_at(graph, i);
@@ -26,7 +26,7 @@ fn count_at(graph: &[u32], i: usize) -> usize
 }
 
 // Where the results and the rows stand.
-fn results_place(graph: &[u32]) -> usize
+pub fn results_place(graph: &[u32]) -> usize
     ensures { λ r. ⌜ r ≤ 20000 ⌝ }
 {
     4 + 2 * count_at(graph, 2)
