@@ -3,6 +3,7 @@
 
   tests/model.py < calls        answers each line of the protocol of `rehearse calls`
   tests/model.py cases          prints the calls of crates/graph_cases/stdin
+  tests/model.py draw < words   lists and draws a graph and its tokens, as crates/graph_drawn does
   tests/model.py told           says of each of them what it shows, with the start of the answer
 
 It shares nothing with the library: states are Python objects here, and words only at the edges.
@@ -360,10 +361,38 @@ def cases():
     yield '17 before 18', call('run', 1000, SUM, five[:-1], [13])
 
 
+def drawing(g, words):
+    """The listing of a graph, a line a row, and its dot text with the tokens of a state."""
+    graph = Graph(g)
+    nodes = graph.nodes()
+    given = {x: (f'n{i}', sort) for i, node in enumerate(nodes) for x, sort in zip(node.wires_out(), node.output_sorts())}
+    given.update({k: (f's{k}', 0) for k in range(len(graph.starts))})
+    tokens = State(graph, words).tokens if words else [None] * graph.wires
+    names = 'STREAM GATE CARRY INVARIANT SPLIT FORK DRAIN OP PICK'.split()
+    shapes = 'house invhouse box box3d diamond triangle invtriangle circle trapezium'.split()
+
+    def edge(wire, reader):
+        source, sort = given[wire]
+        token = '' if tokens[wire] is None else f': {tokens[wire]}'
+        return f'{source} -> {reader} [label="{wire}{token}" style={"dashed" if sort else "solid"}];'
+
+    out = [g[:4], [x for row in graph.starts for x in row], graph.results] + graph.rows
+    out = [' '.join(map(str, x)) for x in out] + ['digraph graph_of_tokens {']
+    for k, (kind, word) in enumerate(graph.starts): out.append(f's{k} [shape=plaintext label="{["input", "constant"][kind]} {word}"];')
+    for i, node in enumerate(nodes):
+        out.append(f'n{i} [label="{i} {names[node.kind]}" shape={shapes[node.kind]}];')
+        out += [edge(x, f'n{i}') for x in node.wires_in()]
+    for k, x in enumerate(graph.results): out += [f'r{k} [shape=plaintext label="result {k}"];', edge(x, f'r{k}')]
+    return out + ['}']
+
+
 if __name__ == '__main__':
     if sys.argv[1:] == ['cases']:
         for _, line in cases(): print(line)
     elif sys.argv[1:] == ['told']:
         for k, (what, line) in enumerate(cases()): print(f'{k + 1}. {what}: `{answer(line).partition(" ;")[0]}`')
+    elif sys.argv[1:] == ['draw']:
+        g, _, s = sys.stdin.read().partition(';')
+        print('\n'.join(drawing(numbers(g), numbers(s))))
     else:
         for line in sys.stdin: print(answer(line))
