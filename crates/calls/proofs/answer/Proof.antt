@@ -1,8 +1,8 @@
 -- `calls::answer` meets its contract: what is lent lies within its memory. Assumes nothing.
 use mathlib.Core.Path.{sym}
 use native.Mathlib.Omega.{arith}
-use lib.Seq.{length-take-le}
 use borrow.Author.Needs.{needs}
+use lib.Seq.{length-take-le}
 use Rattle.calls.proofs.answer.Statement.{statement}
 use Rattle.calls.proofs.answer.Tie as tie
 

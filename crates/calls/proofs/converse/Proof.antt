@@ -1,7 +1,6 @@
 -- `calls::converse` is safe and ends: the turns fall, and nothing lent changes its length. Assumes nothing.
-use Prim.Native.Nat.{_≤_, _-_}
+use Prim.Native.Nat.{_≤_}
 use mathlib.Core.Path.{_≡_}
-use native.Mathlib.Omega.{arith}
 use borrow.Author.Needs.{needs}
 use lib.ListN.{length}
 use Rattle.calls.proofs.converse.Statement.{statement}

@@ -1,7 +1,6 @@
 -- `calls::feed` meets its contract: the line stays within the letters lent, and nothing lent changes its length. Assumes nothing.
 use Prim.Native.Nat.{_≤_, _-_}
 use mathlib.Core.Path.{_≡_}
-use native.Mathlib.Omega.{arith}
 use borrow.Author.Needs.{needs}
 use lib.ListN.{length}
 use Rattle.calls.proofs.feed.Statement.{statement}

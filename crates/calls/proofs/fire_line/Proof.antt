@@ -1,8 +1,8 @@
 -- `calls::fire_line` meets its contract: the lists lie within the words lent. Assumes nothing.
 use mathlib.Core.Path.{sym}
 use native.Mathlib.Omega.{arith}
-use lib.Seq.{length-take-le}
 use borrow.Author.Needs.{needs}
+use lib.Seq.{length-take-le}
 use Rattle.calls.proofs.fire_line.Statement.{statement}
 use Rattle.calls.proofs.fire_line.Tie as tie
 

@@ -1,8 +1,8 @@
 -- `calls::load_line` meets its contract: what is lent lies within the words and the line. Assumes nothing.
 use mathlib.Core.Path.{sym}
 use native.Mathlib.Omega.{arith}
-use lib.Seq.{length-take-le}
 use borrow.Author.Needs.{needs}
+use lib.Seq.{length-take-le}
 use Rattle.calls.proofs.load_line.Statement.{statement}
 use Rattle.calls.proofs.load_line.Tie as tie
 

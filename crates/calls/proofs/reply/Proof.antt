@@ -1,8 +1,8 @@
 -- `calls::reply` meets its contract: what is lent lies within its memory. Assumes nothing.
 use mathlib.Core.Path.{sym}
 use native.Mathlib.Omega.{arith}
-use lib.Seq.{length-take-le}
 use borrow.Author.Needs.{needs}
+use lib.Seq.{length-take-le}
 use Rattle.calls.proofs.reply.Statement.{statement}
 use Rattle.calls.proofs.reply.Tie as tie
 

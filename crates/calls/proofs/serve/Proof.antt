@@ -1,8 +1,8 @@
 -- `calls::serve` is safe and ends. The lengths of the two largest arrays come by the law: they are too long to compute. Assumes nothing.
 use Prim.Native.Nat.{ℕ}
 use mathlib.Core.Path.{sym}
-use lib.ListN.{length-replicate}
 use borrow.Author.Needs.{needs}
+use lib.ListN.{length-replicate}
 use Rattle.calls.proofs.serve.Statement.{statement}
 use Rattle.calls.proofs.serve.Tie as tie
 

@@ -1,7 +1,6 @@
 -- `drawn::put_rows` meets its contract: what is put lies within the letters lent. Assumes nothing.
 use Prim.Native.Nat.{_≤_, _-_}
 use mathlib.Core.Path.{_≡_}
-use native.Mathlib.Omega.{arith}
 use borrow.Author.Needs.{needs}
 use lib.ListN.{length}
 use Rattle.drawn.proofs.put_rows.Statement.{statement}

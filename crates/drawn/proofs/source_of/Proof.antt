@@ -1,9 +1,6 @@
 -- `drawn::source_of` meets its contract. Assumes nothing.
 use Prim.Native.Nat.{_≤_, _-_}
-use mathlib.Core.Path.{_≡_}
-use native.Mathlib.Omega.{arith}
 use borrow.Author.Needs.{needs}
-use lib.ListN.{length}
 use Rattle.drawn.proofs.source_of.Statement.{statement}
 use Rattle.drawn.proofs.source_of.Tie as tie
 

@@ -1,8 +1,8 @@
 -- `graph_rehearsed::rehearse_text` is safe and ends: what is lent lies within its memory. Assumes nothing.
 use mathlib.Core.Path.{sym}
 use native.Mathlib.Omega.{arith}
-use lib.Seq.{length-take-le}
 use borrow.Author.Needs.{needs}
+use lib.Seq.{length-take-le}
 use Rattle.graph_rehearsed.proofs.rehearse_text.Statement.{statement}
 use Rattle.graph_rehearsed.proofs.rehearse_text.Tie as tie
 

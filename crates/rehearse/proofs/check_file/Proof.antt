@@ -1,8 +1,8 @@
 -- `rehearse::check_file` is safe and ends. The length of the text comes by the law: it is too long to compute. Assumes nothing.
 use Prim.Native.Nat.{ℕ}
 use mathlib.Core.Path.{sym}
-use lib.ListN.{length-replicate}
 use borrow.Author.Needs.{needs}
+use lib.ListN.{length-replicate}
 use Rattle.rehearse.proofs.check_file.Statement.{statement}
 use Rattle.rehearse.proofs.check_file.Tie as tie
 

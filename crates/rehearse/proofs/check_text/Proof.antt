@@ -1,8 +1,8 @@
 -- `rehearse::check_text` is safe and ends. Assumes nothing.
 use mathlib.Core.Path.{sym}
 use native.Mathlib.Omega.{arith}
-use lib.Seq.{length-take-le}
 use borrow.Author.Needs.{needs}
+use lib.Seq.{length-take-le}
 use Rattle.rehearse.proofs.check_text.Statement.{statement}
 use Rattle.rehearse.proofs.check_text.Tie as tie
 

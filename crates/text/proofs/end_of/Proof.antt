@@ -1,7 +1,5 @@
 -- `text::end_of` meets its contract: the walk stays between the start and the end of the line. Assumes nothing.
 use Prim.Native.Nat.{_≤_, _-_}
-use mathlib.Core.Path.{_≡_}
-use native.Mathlib.Omega.{arith}
 use borrow.Author.Needs.{needs}
 use lib.ListN.{length}
 use Rattle.text.proofs.end_of.Statement.{statement}

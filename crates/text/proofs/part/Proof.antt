@@ -1,7 +1,5 @@
 -- `text::part` is safe and ends: each start lies within the line. Assumes nothing.
 use Prim.Native.Nat.{_≤_, _-_}
-use mathlib.Core.Path.{_≡_}
-use native.Mathlib.Omega.{arith}
 use borrow.Author.Needs.{needs}
 use lib.ListN.{length}
 use Rattle.text.proofs.part.Statement.{statement}

@@ -1,7 +1,6 @@
 -- `text::put_words` meets its contract: what is put lies within the answer. Assumes nothing.
 use Prim.Native.Nat.{_≤_, _-_}
 use mathlib.Core.Path.{_≡_}
-use native.Mathlib.Omega.{arith}
 use borrow.Author.Needs.{needs}
 use lib.ListN.{length}
 use Rattle.text.proofs.put_words.Statement.{statement}

@@ -1,7 +1,6 @@
 -- `text::same` is safe and ends: the two are as long as each other where they are read. Assumes nothing.
 use Prim.Native.Nat.{_≤_, _-_}
 use mathlib.Core.Path.{_≡_}
-use native.Mathlib.Omega.{arith}
 use borrow.Author.Needs.{needs}
 use lib.ListN.{length}
 use Rattle.text.proofs.same.Statement.{statement}

@@ -1,7 +1,6 @@
 -- `text::words` meets its contract: the words kept lie within those lent. Assumes nothing.
 use Prim.Native.Nat.{_≤_, _-_}
 use mathlib.Core.Path.{_≡_}
-use native.Mathlib.Omega.{arith}
 use borrow.Author.Needs.{needs}
 use lib.ListN.{length}
 use Rattle.text.proofs.words.Statement.{statement}
