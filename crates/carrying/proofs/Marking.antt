@@ -15,7 +15,7 @@ use Rattle.table.specs.Scan.{bodyOf, home}
 use Rattle.structure.specs.Spans.{Encloses}
 use Rattle.structure.specs.Structure.{Structure, right-table-has-structure}
 use Rattle.laid.specs.Scanned.{Walks, here, further, walk-stops, out-of, at-the-rim, around-body}
-use Rattle.lowering.specs.Kept.{Passing, Bodies, markPlace, OnTheWay, Marks}
+use Rattle.carrying.specs.Kept.{Passing, Bodies, markPlace, OnTheWay, Marks}
 
 -- the nesting falls: the outermost body is 0, a loop its FOR row and one
 abbrev pub rank : ℕ → ℕ → ℕ

@@ -5,7 +5,7 @@ ghost use lib.ListN.{length, getD};
 ghost use Rattle.table.specs.Rows.{kindOf, word, size, operandCount, firstOperand};
 ghost use Rattle.table.specs.Bodies.{operand};
 ghost use Rattle.table.specs.Scan.{bodyOf, home, reads};
-ghost use Rattle.lowering.specs.Kept.{Passing, Bodies, markPlace, OnTheWay, Marks, RowMarks, Marked};
+ghost use Rattle.carrying.specs.Kept.{Passing, Bodies, markPlace, OnTheWay, Marks, RowMarks, Marked};
 
 // The kinds of rows.
 const CONST: u32 = 1;

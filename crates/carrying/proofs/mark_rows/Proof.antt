@@ -1,12 +1,12 @@
--- `lowering::mark_rows` meets its contract. Invariant: the operands of the rows before r are marked. Assumes nothing.
+-- `carrying::mark_rows` meets its contract. Invariant: the operands of the rows before r are marked. Assumes nothing.
 use Prim.Native.Nat.{ℕ, _-_, _≤_}
 use mathlib.Core.Path.{_≡_}
 use native.Mathlib.Omega.{arith}
 use borrow.Author.Needs.{needs}
-use Rattle.lowering.proofs.Rows.{marked-more, fewer-marked}
-use Rattle.lowering.specs.Kept.{Marked}
-use Rattle.lowering.proofs.mark_rows.Statement.{statement}
-use Rattle.lowering.proofs.mark_rows.Tie as tie
+use Rattle.carrying.proofs.Rows.{marked-more, fewer-marked}
+use Rattle.carrying.specs.Kept.{Marked}
+use Rattle.carrying.proofs.mark_rows.Statement.{statement}
+use Rattle.carrying.proofs.mark_rows.Tie as tie
 
 abbrev Inv-loop : tie.InvT-loop
 Inv-loop table n bodies marks₀ r₀ marks r = (r ≤ n) × Marked table r marks

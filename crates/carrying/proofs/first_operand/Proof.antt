@@ -1,9 +1,9 @@
--- `lowering::first_operand` meets its contract. The test of the kind fixes the word. Assumes nothing.
+-- `carrying::first_operand` meets its contract. The test of the kind fixes the word. Assumes nothing.
 use native.Mathlib.Omega.{arith}
 use borrow.Author.Tests.{ne-eqb}
 use Rattle.table.specs.Rows.{firstOperand}
-use Rattle.lowering.proofs.first_operand.Statement.{statement}
-use Rattle.lowering.proofs.first_operand.Tie as tie
+use Rattle.carrying.proofs.first_operand.Statement.{statement}
+use Rattle.carrying.proofs.first_operand.Tie as tie
 
 returns : tie.Need-returns
 unfolding firstOperand

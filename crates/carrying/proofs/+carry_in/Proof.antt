@@ -1,15 +1,15 @@
--- `lowering::carry_in` meets its contract. It calls itself for the enclosing loop: the rank of the body falls, until home is reached. Assumes nothing.
+-- `carrying::carry_in` meets its contract. It calls itself for the enclosing loop: the rank of the body falls, until home is reached. Assumes nothing.
 use Prim.Native.Nat.{ℕ, _+_, _*_, _<_}
 use native.Mathlib.Omega.{arith}
 use borrow.Fn.Kinds.{In}
 use borrow.Fn.PlainCycle.{Measures, is, falls, and}
-use Rattle.lowering.proofs.Marking.{rank, stop, way-on, below, noted, in-marks, rank-below, still-long, go-on}
-use Rattle.lowering.proofs.carry_in.Reads as carry-in
-use Rattle.lowering.proofs.carry_in.Kinds as carry-in-kinds
-use Rattle.lowering.proofs.+carry_in.Lts-carry_in as carry-in-lts
-use Rattle.lowering.proofs.body_at.Reads as body-at-reads
-use Rattle.lowering.proofs.+carry_in.{statement}
-use Rattle.lowering.proofs.+carry_in.Tie.{close}
+use Rattle.carrying.proofs.Marking.{rank, stop, way-on, below, noted, in-marks, rank-below, still-long, go-on}
+use Rattle.carrying.proofs.carry_in.Reads as carry-in
+use Rattle.carrying.proofs.carry_in.Kinds as carry-in-kinds
+use Rattle.carrying.proofs.+carry_in.Lts-carry_in as carry-in-lts
+use Rattle.carrying.proofs.body_at.Reads as body-at-reads
+use Rattle.carrying.proofs.+carry_in.{statement}
+use Rattle.carrying.proofs.+carry_in.Tie.{close}
 
 abbrev μ-carry-in : Measures 3 carry-in-kinds.ps ℕ
 μ-carry-in κs a = rank (a .1 .0) (a .1 .1 .1 .1 .1 .1 .0)

@@ -1,9 +1,9 @@
--- `lowering::home_of` meets its contract. One return for each kind of home. Assumes nothing.
+-- `carrying::home_of` meets its contract. One return for each kind of home. Assumes nothing.
 use native.Mathlib.Omega.{arith}
 use borrow.Author.Needs.{needs}
-use Rattle.lowering.proofs.Scanning.{start-home, for-home, next-body-below, next-home, other-home}
-use Rattle.lowering.proofs.home_of.Statement.{statement}
-use Rattle.lowering.proofs.home_of.Tie as tie
+use Rattle.carrying.proofs.Scanning.{start-home, for-home, next-body-below, next-home, other-home}
+use Rattle.carrying.proofs.home_of.Statement.{statement}
+use Rattle.carrying.proofs.home_of.Tie as tie
 
 kind-at-requires : tie.Need-kind-at-requires
 kind-at-requires c κs = search needs

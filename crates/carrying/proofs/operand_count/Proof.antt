@@ -1,9 +1,9 @@
--- `lowering::operand_count` meets its contract. Arm by arm: the kind fixes the count. Assumes nothing.
+-- `carrying::operand_count` meets its contract. Arm by arm: the kind fixes the count. Assumes nothing.
 use native.Mathlib.Omega.{arith}
 use borrow.Author.Tests.{ne-eqb}
 use Rattle.table.specs.Rows.{operandCount}
-use Rattle.lowering.proofs.operand_count.Statement.{statement}
-use Rattle.lowering.proofs.operand_count.Tie as tie
+use Rattle.carrying.proofs.operand_count.Statement.{statement}
+use Rattle.carrying.proofs.operand_count.Tie as tie
 
 returns : tie.Need-returns
 unfolding operandCount

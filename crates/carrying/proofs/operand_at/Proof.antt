@@ -1,8 +1,8 @@
--- `lowering::operand_at` meets its contract. Assumes nothing.
+-- `carrying::operand_at` meets its contract. Assumes nothing.
 use borrow.Author.Needs.{needs}
-use Rattle.lowering.proofs.Rows.{operand-word}
-use Rattle.lowering.proofs.operand_at.Statement.{statement}
-use Rattle.lowering.proofs.operand_at.Tie as tie
+use Rattle.carrying.proofs.Rows.{operand-word}
+use Rattle.carrying.proofs.operand_at.Statement.{statement}
+use Rattle.carrying.proofs.operand_at.Tie as tie
 
 kind-at-requires : tie.Need-kind-at-requires
 kind-at-requires c κs = search needs

@@ -1,4 +1,4 @@
--- `lowering::note_bodies` meets its contract. Invariant: the bodies of the rows before r are noted, and b is the next. Assumes nothing.
+-- `carrying::note_bodies` meets its contract. Invariant: the bodies of the rows before r are noted, and b is the next. Assumes nothing.
 use Prim.Native.Nat.{ℕ, _-_, _≤_}
 use mathlib.Core.Path.{_≡_, sym, _∙_}
 use native.Mathlib.Omega.{arith}
@@ -6,10 +6,10 @@ use borrow.Author.Needs.{needs}
 use lib.ListN.{length-replicate}
 use Rattle.laid.specs.Scanned.{body-first}
 use Rattle.table.specs.Scan.{bodyOf}
-use Rattle.lowering.proofs.Scanning.{none-noted, one-noted, fewer-noted}
-use Rattle.lowering.specs.Kept.{Bodies}
-use Rattle.lowering.proofs.note_bodies.Statement.{statement}
-use Rattle.lowering.proofs.note_bodies.Tie as tie
+use Rattle.carrying.proofs.Scanning.{none-noted, one-noted, fewer-noted}
+use Rattle.carrying.specs.Kept.{Bodies}
+use Rattle.carrying.proofs.note_bodies.Statement.{statement}
+use Rattle.carrying.proofs.note_bodies.Tie as tie
 
 abbrev Inv-loop : tie.InvT-loop
 Inv-loop table n bodies₀ b₀ r₀ bodies b r = (r ≤ n) × Bodies table r bodies × (b ≡ bodyOf table r)

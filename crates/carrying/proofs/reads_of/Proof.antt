@@ -1,9 +1,9 @@
--- `lowering::reads_of` meets its contract. An ARG's operand is read around its loop. Assumes nothing.
+-- `carrying::reads_of` meets its contract. An ARG's operand is read around its loop. Assumes nothing.
 use native.Mathlib.Omega.{arith}
 use borrow.Author.Needs.{needs}
-use Rattle.lowering.proofs.Scanning.{arg-body-below, arg-reads, other-reads}
-use Rattle.lowering.proofs.reads_of.Statement.{statement}
-use Rattle.lowering.proofs.reads_of.Tie as tie
+use Rattle.carrying.proofs.Scanning.{arg-body-below, arg-reads, other-reads}
+use Rattle.carrying.proofs.reads_of.Statement.{statement}
+use Rattle.carrying.proofs.reads_of.Tie as tie
 
 kind-at-requires : tie.Need-kind-at-requires
 kind-at-requires c κs = search needs

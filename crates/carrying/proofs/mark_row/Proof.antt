@@ -1,14 +1,14 @@
--- `lowering::mark_row` meets its contract. Invariant: the ways of the first j operands are marked. Assumes nothing.
+-- `carrying::mark_row` meets its contract. Invariant: the ways of the first j operands are marked. Assumes nothing.
 use Prim.Native.Nat.{ℕ, _-_, _≤_}
 use mathlib.Core.Path.{_≡_, sym, ap, _∙_, subst}
 use native.Mathlib.Omega.{arith}
 use borrow.Author.Needs.{needs}
 use lib.ListN.{length}
 use Rattle.table.specs.Rows.{operandCount, kindOf}
-use Rattle.lowering.proofs.Rows.{row-none, operand-below, operand-way, row-more, row-whole}
-use Rattle.lowering.specs.Kept.{RowMarks}
-use Rattle.lowering.proofs.mark_row.Statement.{statement}
-use Rattle.lowering.proofs.mark_row.Tie as tie
+use Rattle.carrying.proofs.Rows.{row-none, operand-below, operand-way, row-more, row-whole}
+use Rattle.carrying.specs.Kept.{RowMarks}
+use Rattle.carrying.proofs.mark_row.Statement.{statement}
+use Rattle.carrying.proofs.mark_row.Tie as tie
 
 abbrev Inv-loop : tie.InvT-loop
 Inv-loop table n bodies marks₀ r m b j₀ marks j = (j ≤ m) × (length marks ≡ 262144) × RowMarks table r j marks₀ marks

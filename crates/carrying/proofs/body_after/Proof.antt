@@ -1,9 +1,9 @@
--- `lowering::body_after` meets its contract: one law for each kind of row. Assumes nothing.
+-- `carrying::body_after` meets its contract: one law for each kind of row. Assumes nothing.
 use native.Mathlib.Omega.{arith}
 use borrow.Author.Needs.{needs}
-use Rattle.lowering.proofs.Scanning.{for-opens, end-body-below, end-leads-back, other-stays}
-use Rattle.lowering.proofs.body_after.Statement.{statement}
-use Rattle.lowering.proofs.body_after.Tie as tie
+use Rattle.carrying.proofs.Scanning.{for-opens, end-body-below, end-leads-back, other-stays}
+use Rattle.carrying.proofs.body_after.Statement.{statement}
+use Rattle.carrying.proofs.body_after.Tie as tie
 
 kind-at-requires : tie.Need-kind-at-requires
 kind-at-requires c κs = search needs

@@ -16,7 +16,7 @@ use Rattle.structure.specs.Spans.{Encloses}
 use Rattle.lowered.specs.Sources.{carried}
 use Rattle.laid.specs.Listed.{no-both}
 use Rattle.laid.specs.Scanned.{Walks, walked-is-carried, carried-is-walked, reads-body-or-rim}
-use Rattle.lowering.specs.Kept.{Passing, Bodies, markPlace, OnTheWay, Marks, RowMarks, Marked}
+use Rattle.carrying.specs.Kept.{Passing, Bodies, markPlace, OnTheWay, Marks, RowMarks, Marked}
 
 -- operand j of a row, from its first operand's word
 pub operand-word : (t : List ℕ) (r j f k : ℕ) → k ≡ kindOf t r → f ≡ firstOperand k → getD t (6 * r + (f + j)) 0 ≡ operand t r j

@@ -1,0 +1,1 @@
+// What lowering writes, by number: theorems alone, in specs/.
