@@ -175,7 +175,7 @@ module _ (t : List ℕ) where
   wire-base-arg a k = wire-step a ∙ ap (λ (ws : List Wire). wireBase t a + length ws) (arg-outputs a k)
 
   -- ---- the numbers of wires
-  starts-long : length (starts t) ≡ startTotal t
+  pub starts-long : length (starts t) ≡ startTotal t
   unfolding starts startTotal
   starts-long = length-pieces (λ r. start r ∷ []) 1 (λ r. refl) (startRows t) ∙ (let z : 1 * length (startRows t) ≡ length (startRows t) = omega arith in z)
 
@@ -223,7 +223,7 @@ module _ (t : List ℕ) where
 
 -- ---- starts
 module _ (t : List ℕ) (S : Structure t) where
-  all-starts : (v : ℕ) → v ≤ size t → ((r : ℕ) → r < v → isStart t r ≡ true) → length (those (isStart t) v) ≡ v
+  pub all-starts : (v : ℕ) → v ≤ size t → ((r : ℕ) → r < v → isStart t r ≡ true) → length (those (isStart t) v) ≡ v
   unfolding those
   all-starts zero l h = refl
   all-starts (suc v) l h =

@@ -28,7 +28,7 @@ unfolding total
 total-same f g zero h = refl
 total-same f g (suc n) h = ap₂ (λ a b. a + b) (total-same f g n (λ i l. h i (omega arith))) (h n (omega arith))
 
-joined-first : (f : ℕ → List ℕ) (n : ℕ) → joined f (suc n) ≡ f 0 ++ joined (λ i. f (suc i)) n
+pub joined-first : (f : ℕ → List ℕ) (n : ℕ) → joined f (suc n) ≡ f 0 ++ joined (λ i. f (suc i)) n
 unfolding joined
 joined-first f zero = sym (append-nil (f 0))
 joined-first f (suc n) = ap (λ (l : List ℕ). l ++ f (suc n)) (joined-first f n) ∙ append-assoc (f 0) (joined (λ i. f (suc i)) n) (f (suc n))

@@ -60,7 +60,7 @@ opSources t r = operandNumber t r 0 ∷ operandNumber t r 1 ∷ cond (eqb (kindO
 unfoldable pub rowSources : List ℕ → ℕ → List ℕ
 rowSources t r = cond (isOp t r) (opSources t r) (cond (isFor t r) (forSources t r) (cond (isArgRow t r) (argSources t r) []))
 
-standing-append : (on : Use → ℕ) (a b : List Use) → standing on (a ++ b) ≡ standing on a ++ standing on b
+pub standing-append : (on : Use → ℕ) (a b : List Use) → standing on (a ++ b) ≡ standing on a ++ standing on b
 standing-append on [] b = refl
 standing-append on (u ∷ a) b = ap (λ (l : List ℕ). on u ∷ l) (standing-append on a b)
 
