@@ -29,7 +29,7 @@ use Rattle.lowered.specs.Roles.{Role, Wire, Use, into, result}
 use Rattle.lowered.specs.Sources.{source, named, wireOf}
 use Rattle.lowered.specs.Lower.{roles, wires, wireNumber, taken, useIf, roleUses, isOut, outRows, uses, plainNodes, plainWires, standsBy, standsOn, resultTotal}
 use Rattle.laid.specs.Lists.{Among, there, among-left, among-right, has-elem, elem-left, in-range, none-some}
-use Rattle.laid.specs.Indexed.{each-append, joined-along, joined-same}
+use Rattle.laid.specs.Indexed.{sumOf, each-append, joined-along, joined-same, total-along, total-same}
 use Rattle.laid.specs.Made.{result-feed}
 use Rattle.laid.specs.Legs.{standing}
 use Rattle.laid.specs.Taken.{made, number-at, out-row}
@@ -78,7 +78,7 @@ module _ {A : Type 0} where
       let c = cut xs i x h in
       record { before = y ∷ c .before; behind = c .behind; whole = ap (λ (zs : List A). y ∷ zs) (c .whole); long = ap suc (c .long) }
 
-  in-front : (xs ys : List A) (j : ℕ) → j < length xs → getElem? (xs ++ ys) j ≡ getElem? xs j
+  pub in-front : (xs ys : List A) (j : ℕ) → j < length xs → getElem? (xs ++ ys) j ≡ getElem? xs j
   in-front xs ys j l = let e = has-elem xs j l in elem-left xs ys j (e .0) (e .1) ∙ sym (e .1)
 
   -- what the elements before a place give
@@ -88,6 +88,13 @@ module _ {A : Type 0} where
       joined-same (λ j. F (getElem? xs j)) (λ j. F (getElem? (c .before) j)) i
       (λ j l. ap F (ap (λ (zs : List A). getElem? zs j) (c .whole) ∙ in-front (c .before) (x ∷ c .behind) j (omega arith)))
       ∙ ap (joined (λ j. F (getElem? (c .before) j))) (sym (c .long)) ∙ joined-along F (c .before)
+
+  pub total-before : (F : Option A → ℕ) (xs : List A) (i : ℕ) (x : A) (c : Cut xs i x) → total (λ j. F (getElem? xs j)) i ≡ sumOf (λ y. F (some y)) (c .before)
+  total-before F xs i x c =
+      let n = c .long in
+      total-same (λ j. F (getElem? xs j)) (λ j. F (getElem? (c .before) j)) i
+      (λ j l. ap F (ap (λ (zs : List A). getElem? zs j) (c .whole) ∙ in-front (c .before) (x ∷ c .behind) j (omega arith)))
+      ∙ ap (total (λ j. F (getElem? (c .before) j))) (sym (c .long)) ∙ total-along F (c .before)
 
 -- ---- uses, counted
 module _ (t : List ℕ) where
