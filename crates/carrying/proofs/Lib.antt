@@ -2,3 +2,7 @@
 pub mod Scanning
 pub mod Marking
 pub mod Rows
+pub mod Homes
+pub mod Counting
+pub mod Linking
+pub mod Pairing

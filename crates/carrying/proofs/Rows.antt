@@ -6,17 +6,16 @@ use mathlib.Core.Bool.{Bool, true, false}
 use mathlib.Core.List.{List}
 use native.Mathlib.Omega.{arith}
 use native.Mathlib.Decide.{ℕ-discrete}
-use lib.ListN.{length, getD, replicate, length-replicate}
+use lib.ListN.{getD, replicate, length-replicate}
 use Rattle.word.specs.Words.{flag}
-use Rattle.table.specs.Rows.{kindOf, word, size, operandCount, firstOperand}
-use Rattle.table.specs.Scan.{bodyOf, reads, home}
+use Rattle.table.specs.Rows.{kindOf, size, operandCount, firstOperand}
+use Rattle.table.specs.Scan.{reads}
 use Rattle.table.specs.Bodies.{operand}
 use Rattle.structure.specs.Structure.{Structure, right-table-has-structure}
-use Rattle.structure.specs.Spans.{Encloses}
 use Rattle.lowered.specs.Sources.{carried}
 use Rattle.laid.specs.Listed.{no-both}
 use Rattle.laid.specs.Scanned.{Walks, walked-is-carried, carried-is-walked, reads-body-or-rim}
-use Rattle.carrying.specs.Kept.{Passing, Bodies, markPlace, OnTheWay, Marks, RowMarks, Marked}
+use Rattle.carrying.specs.Kept.{Passing, markPlace, OnTheWay, Marks, RowMarks, Marked}
 
 -- operand j of a row, from its first operand's word
 pub operand-word : (t : List ℕ) (r j f k : ℕ) → k ≡ kindOf t r → f ≡ firstOperand k → getD t (6 * r + (f + j)) 0 ≡ operand t r j

@@ -1,10 +1,9 @@
 -- `carrying::mark_row` meets its contract. Invariant: the ways of the first j operands are marked. Assumes nothing.
-use Prim.Native.Nat.{ℕ, _-_, _≤_}
-use mathlib.Core.Path.{_≡_, sym, ap, _∙_, subst}
+use Prim.Native.Nat.{_-_, _≤_}
+use mathlib.Core.Path.{_≡_, _∙_}
 use native.Mathlib.Omega.{arith}
 use borrow.Author.Needs.{needs}
 use lib.ListN.{length}
-use Rattle.table.specs.Rows.{operandCount, kindOf}
 use Rattle.carrying.proofs.Rows.{row-none, operand-below, operand-way, row-more, row-whole}
 use Rattle.carrying.specs.Kept.{RowMarks}
 use Rattle.carrying.proofs.mark_row.Statement.{statement}

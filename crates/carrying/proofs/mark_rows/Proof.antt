@@ -1,6 +1,5 @@
 -- `carrying::mark_rows` meets its contract. Invariant: the operands of the rows before r are marked. Assumes nothing.
-use Prim.Native.Nat.{ℕ, _-_, _≤_}
-use mathlib.Core.Path.{_≡_}
+use Prim.Native.Nat.{_-_, _≤_}
 use native.Mathlib.Omega.{arith}
 use borrow.Author.Needs.{needs}
 use Rattle.carrying.proofs.Rows.{marked-more, fewer-marked}
