@@ -1,6 +1,6 @@
 -- How starts and results are counted, and how the first nodes and outputs of the rows are added up. Assumes nothing.
 use Prim.Native.Nat.{ℕ, zero, suc, _+_, _*_, _≤_, _<_}
-use mathlib.Core.Path.{_≡_, refl, sym, ap, _∙_}
+use mathlib.Core.Path.{_≡_, refl, sym, ap, _∙_, subst}
 use mathlib.Core.Logic.{_≢_, _⊎_, inl, inr}
 use mathlib.Core.Bool.{Bool, true, false, cond}
 use mathlib.Core.List.{List, [], _∷_, _++_, append-nil}
@@ -18,7 +18,19 @@ use Rattle.lowered.specs.Roles.{Role, start}
 use Rattle.lowered.specs.Sources.{carried, isOp}
 use Rattle.lowered.specs.Lower.{carriedInto, roles, roleOutputs, rowRoles, isStart, startRows, outRows, starts, wires, startTotal, resultTotal, plainNodes, plainWires}
 use Rattle.laid.specs.Bases.{nodeBase, wireBase, length-pieces, no-roles, node-base-op, node-base-for, node-base-arg, node-base-other, wire-base-op, wire-base-for, wire-base-arg}
-use Rattle.carrying.specs.Kept.{Passing, Counted, Bases, BasesBefore}
+use Rattle.carrying.specs.Kept.{Passing, Counted, Bases, Low}
+
+-- The bases of the rows before r, with the sums so far; the outputs stay low.
+pub record BasesBefore (t : List ℕ) (r : ℕ) (old nodes wires : List ℕ) (node wire : ℕ) : Type 0 where
+  pub nodes-long : length nodes ≡ 512
+  pub wires-long : length wires ≡ 512
+  pub nodes-noted : (q : ℕ) → q < r → getD nodes q 0 ≡ nodeBase t q
+  pub wires-noted : (q : ℕ) → q < r → getD wires q 0 ≡ wireBase t q
+  pub node-is : node ≡ nodeBase t r
+  pub wire-is : wire ≡ wireBase t r
+  pub node-small : node ≤ 2000 * r
+  pub wire-small : wire ≤ 512 + 2000 * r
+  pub low : Low old → Low wires
 
 -- ---- the numbers that pass a test, counted
 flag-small : (b : Bool) → flag b ≤ 1
@@ -124,7 +136,7 @@ module _ (t : List ℕ) (n : ℕ) (p : Passing t n) where
     wires-of-other a b c d = ap (wireBase t) (add-one r) ∙ no-wires r (none a b c d) ∙ (let z : wireBase t r ≡ wireBase t r + 0 = omega arith in z)
 
   -- ---- all rows
-  pub no-bases : (starts : ℕ) (nodes wires : List ℕ) → starts ≡ startTotal t → length nodes ≡ 512 → length wires ≡ 512 → BasesBefore t 0 nodes wires 0 starts
+  pub no-bases : (starts : ℕ) (nodes wires : List ℕ) → starts ≡ startTotal t → length nodes ≡ 512 → length wires ≡ 512 → BasesBefore t 0 wires nodes wires 0 starts
   unfolding nodeBase wireBase gathered each
   no-bases starts nodes wires e a b =
       record {
@@ -136,6 +148,7 @@ module _ (t : List ℕ) (n : ℕ) (p : Passing t n) where
         wire-is = e ∙ (let z : startTotal t ≡ startTotal t + 0 = omega arith in z);
         node-small = omega arith;
         wire-small = let z = starts-few in omega arith;
+        low = λ h. h;
       }
 
   noted-at : (r x : ℕ) (base : ℕ → ℕ) (notes : List ℕ) → length notes ≡ 512 → r < n → x ≡ base r → ((q : ℕ) → q < r → getD notes q 0 ≡ base q)
@@ -149,10 +162,10 @@ module _ (t : List ℕ) (n : ℕ) (p : Passing t n) where
       under : q ≢ r → q < r + 1 → q < r
       under z h = omega arith
 
-  pub one-base : (r node wire x y : ℕ) (nodes wires : List ℕ) → r < n → BasesBefore t r nodes wires node wire
+  pub one-base : (r node wire x y : ℕ) (old nodes wires : List ℕ) → r < n → BasesBefore t r old nodes wires node wire
       → (nodeBase t (r + 1) ≡ nodeBase t r + x) × (x ≤ 2000) → (wireBase t (r + 1) ≡ wireBase t r + y) × (y ≤ 2000)
-      → BasesBefore t (r + 1) (set nodes r node) (set wires r wire) (node + x) (wire + y)
-  one-base r node wire x y nodes wires l B a b =
+      → BasesBefore t (r + 1) old (set nodes r node) (set wires r wire) (node + x) (wire + y)
+  one-base r node wire x y old nodes wires l B a b =
       record {
         nodes-long = length-set nodes r node ∙ B .nodes-long;
         wires-long = length-set wires r wire ∙ B .wires-long;
@@ -162,7 +175,15 @@ module _ (t : List ℕ) (n : ℕ) (p : Passing t n) where
         wire-is = ap (λ (z : ℕ). z + y) (B .wire-is) ∙ sym (b .0);
         node-small = let z = B .node-small in let s = a .1 in omega arith;
         wire-small = let z = B .wire-small in let s = b .1 in omega arith;
+        low = λ h q. elim (ℕ-discrete q r) [ yes z ↦ here q z | no z ↦ subst (λ (w : ℕ). w ≤ 100000000) (sym (getD-set-other wires r q wire 0 z)) (B .low h q) ];
       }
+    where
+      here : (q : ℕ) → q ≡ r → getD (set wires r wire) q 0 ≤ 100000000
+      here q z =
+          let e : getD (set wires r wire) q 0 ≡ wire = ap (λ (i : ℕ). getD (set wires r wire) i 0) z ∙ getD-set-same wires r wire 0 (let f = p .few in let g = B .wires-long in omega arith) in
+          let f = p .few in
+          let s = B .wire-small in
+          omega arith
 
   all-nodes : nodeBase t (size t) ≡ plainNodes t
   unfolding nodeBase plainNodes roles
@@ -175,8 +196,9 @@ module _ (t : List ℕ) (n : ℕ) (p : Passing t n) where
       let b = length-pieces (λ r. start r ∷ []) 1 (λ r. refl) (startRows t) in
       omega arith
 
-  pub all-bases : (r node wire : ℕ) (nodes wires : List ℕ) → r ≤ n → n ≤ r → BasesBefore t r nodes wires node wire → Bases t nodes wires × (node ≡ plainNodes t) × (wire ≡ plainWires t)
-  all-bases r node wire nodes wires a b B =
+  pub all-bases : (r node wire : ℕ) (old nodes wires : List ℕ) → r ≤ n → n ≤ r → BasesBefore t r old nodes wires node wire
+      → Bases t nodes wires × (node ≡ plainNodes t) × (wire ≡ plainWires t) × (Low old → Low wires)
+  all-bases r node wire old nodes wires a b B =
       let s = whole r a b in (
         record {
           nodes-long = B .nodes-long;
@@ -186,4 +208,5 @@ module _ (t : List ℕ) (n : ℕ) (p : Passing t n) where
         },
         B .node-is ∙ ap (nodeBase t) s ∙ all-nodes,
         B .wire-is ∙ ap (wireBase t) s ∙ all-wires,
+        B .low,
       )

@@ -28,22 +28,25 @@ at-most-three k = two (eqb k 2) (eqb k 3) (eqb k 4) (eqb k 5) (eqb k 6) (eqb k 8
     two false false false false false true = omega arith
     two false false false false false false = omega arith
 
-pub no-uses : (t heads links : List ℕ) → length heads ≡ 512 → length links ≡ 1536 → ((v : ℕ) → getD heads v 0 ≡ 0) → Uses t 0 heads links
-no-uses t heads links a b z =
-    record {
-      heads-long = a;
-      links-long = b;
-      head = λ v l. inl (z v);
-      head-below = λ v l. let y = z v in omega arith;
-      head-last = λ r j u l. absurd (omega arith);
-      link = λ r j u l. absurd (omega arith);
-      link-below = λ r j u l. absurd (omega arith);
-      link-last = λ r j q i u w l e o. absurd (omega arith);
-    }
-
 module _ (t : List ℕ) (n : ℕ) (p : Passing t n) where
   abbrev S : Structure t
   S = right-table-has-structure t (p .right)
+
+  pub no-uses : (heads links : List ℕ) → length heads ≡ 512 → length links ≡ 1536 → ((v : ℕ) → v < 512 → getD heads v 0 ≡ 0) → Uses t 0 heads links
+  no-uses heads links a b z =
+      record {
+        heads-long = a;
+        links-long = b;
+        head = λ v l. inl (nothing v l);
+        head-below = λ v l. let y = nothing v l in omega arith;
+        head-last = λ r j u l. absurd (omega arith);
+        link = λ r j u l. absurd (omega arith);
+        link-below = λ r j u l. absurd (omega arith);
+        link-last = λ r j q i u w l e o. absurd (omega arith);
+      }
+    where
+      nothing : (v : ℕ) → v < size t → getD heads v 0 ≡ 0
+      nothing v l = z v (let f = S .few in omega arith)
 
   same-place : (r j q i : ℕ) → j < 3 → i < 3 → 3 * q + i ≡ 3 * r + j → (q ≡ r) × (i ≡ j)
   same-place r j q i a b e = (omega arith, omega arith)

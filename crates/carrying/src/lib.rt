@@ -9,7 +9,7 @@ ghost use Rattle.table.specs.Bodies.{operand, argOf};
 ghost use Rattle.table.specs.Scan.{bodyOf, home, reads};
 ghost use Rattle.lowered.specs.Lower.{startTotal, resultTotal, plainNodes, plainWires};
 ghost use Rattle.laid.specs.Bases.{nodeBase, wireBase};
-ghost use Rattle.carrying.specs.Kept.{Passing, Bodies, Pairs, PairsBefore, Uses, Counted, Bases, homeFrom, markPlace, OnTheWay, Marks, RowMarks, Marked};
+ghost use Rattle.carrying.specs.Kept.{Passing, Bodies, Pairs, PairsBefore, Uses, Counted, Bases, Low, homeFrom};
 
 // The kinds of rows.
 const CONST: u32 = 1;
@@ -159,7 +159,7 @@ pub fn reads_of(table: &[u32], n: u32, bodies: &[u32; 512], r: u32) -> u32
 
 // The number of row v's wire at home, from the first output of each row.
 pub fn home_wire(table: &[u32], n: u32, pairs: &[u32; 512], wires: &[u32; 512], v: u32) -> u32
-    requires { ⌜ Passing (now table) n × Pairs (now table) (now pairs) × ((r : ℕ) → getD (now wires) r 0 ≤ 100000000) × (v < n) × (kindOf (now table) v ≤ 6) ⌝ }
+    requires { ⌜ Passing (now table) n × Pairs (now table) (now pairs) × Low (now wires) × (v < n) × (kindOf (now table) v ≤ 6) ⌝ }
     ensures { λ w. ⌜ w ≡ homeFrom (now (table .entry)) (now (wires .entry)) v ⌝ }
 {
     let kind = kind_at(table, v);
@@ -279,7 +279,7 @@ pub fn note_bases(
     wires: &mut [u32; 512],
 ) -> Plain
     requires { ⌜ Passing (now table) n × (starts ≡ startTotal (now table)) × Counted (now table) (now counts) × (length (now nodes) ≡ 512) × (length (now wires) ≡ 512) ⌝ }
-    ensures { λ p. ⌜ Bases (now (table .entry)) (now (nodes .exit)) (now (wires .exit)) × (p .nodes ≡ plainNodes (now (table .entry))) × (p .wires ≡ plainWires (now (table .entry))) ⌝ }
+    ensures { λ p. ⌜ Bases (now (table .entry)) (now (nodes .exit)) (now (wires .exit)) × (p .nodes ≡ plainNodes (now (table .entry))) × (p .wires ≡ plainWires (now (table .entry))) × (Low (now (wires .entry)) → Low (now (wires .exit))) ⌝ }
 {
     let mut node: u32 = 0;
     let mut wire = starts;
@@ -314,7 +314,7 @@ fn note_row_uses(table: &[u32], n: u32, heads: &mut [u32; 512], links: &mut [u32
 
 // For every value the operands that name it, linked, last first.
 pub fn note_uses(table: &[u32], n: u32, heads: &mut [u32; 512], links: &mut [u32; 1536])
-    requires { ⌜ Passing (now table) n × (length (now heads) ≡ 512) × (length (now links) ≡ 1536) × ((v : ℕ) → getD (now heads) v 0 ≡ 0) ⌝ }
+    requires { ⌜ Passing (now table) n × (length (now heads) ≡ 512) × (length (now links) ≡ 1536) × ((v : ℕ) → v < 512 → getD (now heads) v 0 ≡ 0) ⌝ }
     ensures { λ u. ⌜ Uses (now (table .entry)) (3 * n) (now (heads .exit)) (now (links .exit)) ⌝ }
 {
     let mut r: u32 = 0;
@@ -360,52 +360,4 @@ pub fn note_pairs(table: &[u32], n: u32, bodies: &[u32; 512]) -> [u32; 512]
         r += 1;
     }
     pairs
-}
-
-// Marks every loop that value v passes on its way from body b out to its home, one loop further out each time.
-fn carry_in(
-    table: &[u32],
-    n: u32,
-    bodies: &[u32; 512],
-    marks: &mut [u32; 262144],
-    v: u32,
-    h: u32,
-    b: u32,
-)
-    requires { ⌜ Passing (now table) n × Bodies (now table) n (now bodies) × (v < n) × (h ≡ home (now table) v) × OnTheWay (now table) v b × (length (now marks) ≡ 262144) ⌝ }
-    ensures { λ u. ⌜ Marks (now (table .entry)) v b (now (marks .entry)) (now (marks .exit)) ⌝ }
-{
-    if b == h {
-        return;
-    }
-    marks[(512 * b + v) as usize] = 1;
-    carry_in(table, n, bodies, marks, v, h, body_at(bodies, b));
-}
-
-// Marks the ways of row r's operands.
-fn mark_row(table: &[u32], n: u32, bodies: &[u32; 512], marks: &mut [u32; 262144], r: u32)
-    requires { ⌜ Passing (now table) n × Bodies (now table) n (now bodies) × (r < n) × (length (now marks) ≡ 262144) ⌝ }
-    ensures { λ u. ⌜ RowMarks (now (table .entry)) r (operandCount (kindOf (now (table .entry)) r)) (now (marks .entry)) (now (marks .exit)) ⌝ }
-{
-    let m = operand_count(kind_at(table, r));
-    let b = reads_of(table, n, bodies, r);
-    let mut j: u32 = 0;
-    while j < m {
-        let v = operand_at(table, r, j);
-        let h = home_of(table, n, bodies, v);
-        carry_in(table, n, bodies, marks, v, h, b);
-        j += 1;
-    }
-}
-
-// Marks, for each loop and value, whether the value is carried into the loop.
-fn mark_rows(table: &[u32], n: u32, bodies: &[u32; 512], marks: &mut [u32; 262144])
-    requires { ⌜ Passing (now table) n × Bodies (now table) n (now bodies) × Marked (now table) 0 (now marks) ⌝ }
-    ensures { λ u. ⌜ Marked (now (table .entry)) n (now (marks .exit)) ⌝ }
-{
-    let mut r: u32 = 0;
-    while r < n {
-        mark_row(table, n, bodies, marks, r);
-        r += 1;
-    }
 }

@@ -2,13 +2,12 @@
 use Prim.Native.Nat.{_-_, _≤_}
 use native.Mathlib.Omega.{arith}
 use borrow.Author.Needs.{needs}
-use Rattle.carrying.specs.Kept.{BasesBefore}
-use Rattle.carrying.proofs.Counting.{no-bases, one-base, all-bases}
+use Rattle.carrying.proofs.Counting.{BasesBefore, no-bases, one-base, all-bases}
 use Rattle.carrying.proofs.note_bases.Statement.{statement}
 use Rattle.carrying.proofs.note_bases.Tie as tie
 
 abbrev Inv-loop : tie.InvT-loop
-Inv-loop table n starts counts nodes₀ wires₀ node₀ wire₀ r₀ nodes wires node wire r = (r ≤ n) × BasesBefore table r nodes wires node wire
+Inv-loop table n starts counts nodes₀ wires₀ node₀ wire₀ r₀ nodes wires node wire r = (r ≤ n) × BasesBefore table r wires₀ nodes wires node wire
 
 abbrev μ-loop : tie.MeasureT-loop
 μ-loop table n starts counts nodes₀ wires₀ node₀ wire₀ r₀ nodes wires node wire r = n - r
@@ -53,10 +52,10 @@ loop-less : tie.Need-loop-less Inv-loop μ-loop
 loop-less c = omega (arith, c .before .before .loop-test .taken)
 
 loop-again : tie.Need-loop-again Inv-loop μ-loop
-loop-again c = (omega (arith, c .before .before .loop-test .taken), one-base _ _ (c .before .before .before .before .before .pre .0) _ _ _ _ _ _ _ (c .before .before .loop-test .taken) (c .before .before .before .loop .inv .1) (c .before .nodes-of .ensures) (c .wires-of .ensures))
+loop-again c = (omega (arith, c .before .before .loop-test .taken), one-base _ _ (c .before .before .before .before .before .pre .0) _ _ _ _ _ _ _ _ (c .before .before .loop-test .taken) (c .before .before .before .loop .inv .1) (c .before .nodes-of .ensures) (c .wires-of .ensures))
 
 returns : tie.Need-returns Inv-loop μ-loop
-returns c = all-bases _ _ (c .before .before .before .pre .0) _ _ _ _ _ (c .before .loop .inv .0) (c .loop-test .left) (c .before .loop .inv .1)
+returns c = all-bases _ _ (c .before .before .before .pre .0) _ _ _ _ _ _ (c .before .loop .inv .0) (c .loop-test .left) (c .before .loop .inv .1)
 
 pub note-bases-spec : {M : Type 1} → statement M
 note-bases-spec =

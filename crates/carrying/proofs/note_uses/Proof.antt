@@ -13,7 +13,7 @@ abbrev μ-loop : tie.MeasureT-loop
 μ-loop table n heads₀ links₀ r₀ heads links r = n - r
 
 loop-holds : tie.Need-loop-holds Inv-loop μ-loop
-loop-holds c = (omega arith, no-uses _ _ _ (c .before .pre .1) (c .before .pre .2) (c .before .pre .3))
+loop-holds c = (omega arith, no-uses _ _ (c .before .pre .0) _ _ (c .before .pre .1) (c .before .pre .2) (c .before .pre .3))
 
 note-row-uses-requires : tie.Need-note-row-uses-requires Inv-loop μ-loop
 note-row-uses-requires c κs = (c .before .before .before .before .before .pre .0, c .before .before .loop-test .taken, c .before .before .before .loop .inv .1)
