@@ -1,0 +1,271 @@
+// The nodes of a table that has passed refusals 1 to 9, before forks: counted first, then laid down in rows of seven words.
+ghost use mathlib.Core.Path.{_≡_};
+ghost use mathlib.Core.List.{[], _∷_};
+ghost use Prim.Native.Nat.{ℕ, _+_, _*_, _<_, _≤_};
+ghost use lib.ListN.{length, getD, set};
+ghost use lib.Seq.{sets};
+ghost use Rattle.table.specs.Rows.{kindOf, size};
+ghost use Rattle.table.specs.Scan.{home};
+ghost use Rattle.carrying.specs.Kept.{Passing, Bodies, Pairs, Uses, OnTheWay};
+ghost use Rattle.laying.specs.Entering.{Room, copyRows, Entering, Entered, Resolved, Takes, Carries};
+ghost use Rattle.laying.specs.Using.{Counting, UseAt, UseResolved, UsesResolved, Values};
+
+// Stands for an absent input.
+const X: u32 = 4294967295;
+
+// The kinds of nodes.
+const INVARIANT: u32 = 3;
+
+const SPLIT: u32 = 4;
+
+// One word of the rows.
+fn put(rows: &mut [u32; 28672], i: u32, w: u32)
+    requires { ⌜ i < 28672 ⌝ }
+    ensures { λ u. ⌜ now (rows .exit) ≡ set (now (rows .entry)) i w ⌝ }
+{
+    rows[i as usize] = w;
+}
+
+// Row i: the kind, the code, the sort, the three inputs and the first output.
+fn put_row(
+    rows: &mut [u32; 28672],
+    i: u32,
+    kind: u32,
+    code: u32,
+    sort: u32,
+    a: u32,
+    b: u32,
+    c: u32,
+    first: u32,
+)
+    requires { ⌜ i < 4096 ⌝ }
+    ensures { λ u. ⌜ now (rows .exit) ≡ sets (now (rows .entry)) (7 * i) (kind ∷ code ∷ sort ∷ a ∷ b ∷ c ∷ first ∷ []) ⌝ }
+{
+    put(rows, 7 * i, kind);
+    put(rows, 7 * i + 1, code);
+    put(rows, 7 * i + 2, sort);
+    put(rows, 7 * i + 3, a);
+    put(rows, 7 * i + 4, b);
+    put(rows, 7 * i + 5, c);
+    put(rows, 7 * i + 6, first);
+}
+
+// The copy of a value for a loop whose nodes start at i and wires at w: SPLIT(guard, value), INVARIANT(gated condition, true leg).
+fn lay_copy(rows: &mut [u32; 28672], i: u32, w: u32, place: u32, sort: u32, outer: u32)
+    requires { ⌜ (i + (5 + 2 * place) ≤ 4096) × (w ≤ 100000000) ⌝ }
+    ensures { λ u. ⌜ now (rows .exit) ≡ copyRows (now (rows .entry)) i w place sort outer ⌝ }
+{
+    let leg = w + 5 + 3 * place;
+    put_row(
+        rows,
+        i + 3 + 2 * place,
+        SPLIT,
+        0,
+        sort,
+        w + 4,
+        outer,
+        X,
+        leg,
+    );
+    put_row(
+        rows,
+        i + 4 + 2 * place,
+        INVARIANT,
+        0,
+        sort,
+        w + 3,
+        leg,
+        X,
+        w + 7 + 3 * place,
+    );
+}
+
+// The wire of value v in loop b, where it comes to the body around on wire `outer`. The copy made for b is laid down where it is not there yet.
+fn enter(
+    table: &[u32],
+    n: u32,
+    nodes: &[u32; 512],
+    wires: &[u32; 512],
+    counts: &mut [u32; 512],
+    lasts: &mut [u32; 512],
+    rows: &mut [u32; 28672],
+    v: u32,
+    b: u32,
+    outer: u32,
+) -> u32
+    requires { ⌜ Passing (now table) n × Takes (now table) v b × Room (now table) (now nodes) (now wires) × Entering (now table) v (now counts) (now lasts) × (length (now rows) ≡ 28672) ⌝ }
+    ensures { λ w. ⌜ Entered (now (table .entry)) v b (now (nodes .entry)) (now (wires .entry)) outer (now (lasts .entry)) (now (rows .entry)) (now (counts .exit)) (now (lasts .exit)) (now (rows .exit)) w ⌝ }
+{
+    let w = carrying::body_at(wires, b);
+    let place = counts[b as usize];
+    if lasts[b as usize] == v + 1 {
+        return w + 4 + 3 * place;
+    }
+    lay_copy(
+        rows,
+        carrying::body_at(nodes, b),
+        w,
+        place,
+        carrying::sort_at(table, v),
+        outer,
+    );
+    counts[b as usize] = place + 1;
+    lasts[b as usize] = v + 1;
+    w + 7 + 3 * place
+}
+
+// The wire on which value v comes to body b: at home its own; else that of the copy made for loop b, its own source found one loop further out.
+fn resolve(
+    table: &[u32],
+    n: u32,
+    bodies: &[u32; 512],
+    nodes: &[u32; 512],
+    wires: &[u32; 512],
+    counts: &mut [u32; 512],
+    lasts: &mut [u32; 512],
+    rows: &mut [u32; 28672],
+    v: u32,
+    h: u32,
+    own: u32,
+    b: u32,
+) -> u32
+    requires { ⌜ Passing (now table) n × Bodies (now table) n (now bodies) × (v < n) × (h ≡ home (now table) v) × OnTheWay (now table) v b × Carries (now table) v b × Room (now table) (now nodes) (now wires) × Entering (now table) v (now counts) (now lasts) × (length (now rows) ≡ 28672) ⌝ }
+    ensures { λ w. ⌜ Resolved (now (table .entry)) v b (now (nodes .entry)) (now (wires .entry)) own (now (lasts .entry)) (now (rows .entry)) (now (counts .exit)) (now (lasts .exit)) (now (rows .exit)) w ⌝ }
+{
+    if b == h {
+        return own;
+    }
+    let around = carrying::body_at(bodies, b);
+    let outer = resolve(
+        table,
+        n,
+        bodies,
+        nodes,
+        wires,
+        counts,
+        lasts,
+        rows,
+        v,
+        h,
+        own,
+        around,
+    );
+    enter(table, n, nodes, wires, counts, lasts, rows, v, b, outer)
+}
+
+// The wire of the operand at place p, which names value v.
+fn resolve_use(
+    table: &[u32],
+    n: u32,
+    bodies: &[u32; 512],
+    pairs: &[u32; 512],
+    nodes: &[u32; 512],
+    wires: &[u32; 512],
+    counts: &mut [u32; 512],
+    lasts: &mut [u32; 512],
+    rows: &mut [u32; 28672],
+    at: &mut [u32; 1536],
+    v: u32,
+    p: u32,
+)
+    requires { ⌜ Passing (now table) n × Bodies (now table) n (now bodies) × Pairs (now table) (now pairs) × UseAt (now table) v p × Room (now table) (now nodes) (now wires) × Entering (now table) v (now counts) (now lasts) × (length (now rows) ≡ 28672) × (length (now at) ≡ 1536) ⌝ }
+    ensures { λ u. ⌜ UseResolved (now (table .entry)) v p (now (nodes .entry)) (now (wires .entry)) (now (lasts .entry)) (now (rows .entry)) (now (at .entry)) (now (counts .exit)) (now (lasts .exit)) (now (rows .exit)) (now (at .exit)) ⌝ }
+{
+    let h = carrying::home_of(table, n, bodies, v);
+    let own = carrying::home_wire(table, n, pairs, wires, v);
+    let b = carrying::reads_of(table, n, bodies, p / 3);
+    let w = resolve(
+        table,
+        n,
+        bodies,
+        nodes,
+        wires,
+        counts,
+        lasts,
+        rows,
+        v,
+        h,
+        own,
+        b,
+    );
+    at[p as usize] = w;
+}
+
+// The wires of all operands that name value v, and with them the copies of v.
+fn resolve_uses(
+    table: &[u32],
+    n: u32,
+    bodies: &[u32; 512],
+    pairs: &[u32; 512],
+    heads: &[u32; 512],
+    links: &[u32; 1536],
+    nodes: &[u32; 512],
+    wires: &[u32; 512],
+    counts: &mut [u32; 512],
+    lasts: &mut [u32; 512],
+    rows: &mut [u32; 28672],
+    at: &mut [u32; 1536],
+    v: u32,
+)
+    requires { ⌜ Passing (now table) n × Bodies (now table) n (now bodies) × Pairs (now table) (now pairs) × Uses (now table) (3 * n) (now heads) (now links) × Room (now table) (now nodes) (now wires) × (v < n) × Counting (now table) v (now counts) (now lasts) × (length (now rows) ≡ 28672) × (length (now at) ≡ 1536) ⌝ }
+    ensures { λ u. ⌜ UsesResolved (now (table .entry)) v (now (nodes .entry)) (now (wires .entry)) (now (rows .entry)) (now (at .entry)) (now (counts .exit)) (now (lasts .exit)) (now (rows .exit)) (now (at .exit)) ⌝ }
+{
+    let mut c = carrying::body_at(heads, v);
+    while c != 0 {
+        let p = c - 1;
+        resolve_use(
+            table,
+            n,
+            bodies,
+            pairs,
+            nodes,
+            wires,
+            counts,
+            lasts,
+            rows,
+            at,
+            v,
+            p,
+        );
+        c = links[p as usize];
+    }
+}
+
+// All values in rising order: how many each loop carries, the copies of each, and the wire of every operand.
+fn resolve_values(
+    table: &[u32],
+    n: u32,
+    bodies: &[u32; 512],
+    pairs: &[u32; 512],
+    heads: &[u32; 512],
+    links: &[u32; 1536],
+    nodes: &[u32; 512],
+    wires: &[u32; 512],
+    counts: &mut [u32; 512],
+    lasts: &mut [u32; 512],
+    rows: &mut [u32; 28672],
+    at: &mut [u32; 1536],
+)
+    requires { ⌜ Passing (now table) n × Bodies (now table) n (now bodies) × Pairs (now table) (now pairs) × Uses (now table) (3 * n) (now heads) (now links) × Room (now table) (now nodes) (now wires) × Counting (now table) 0 (now counts) (now lasts) × (length (now rows) ≡ 28672) × (length (now at) ≡ 1536) ⌝ }
+    ensures { λ u. ⌜ Values (now (table .entry)) n (now (nodes .entry)) (now (wires .entry)) (now (counts .exit)) (now (lasts .exit)) (now (rows .exit)) (now (at .exit)) ⌝ }
+{
+    let mut v: u32 = 0;
+    while v < n {
+        resolve_uses(
+            table,
+            n,
+            bodies,
+            pairs,
+            heads,
+            links,
+            nodes,
+            wires,
+            counts,
+            lasts,
+            rows,
+            at,
+            v,
+        );
+        v += 1;
+    }
+}
