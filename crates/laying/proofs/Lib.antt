@@ -2,3 +2,4 @@
 pub mod Putting
 pub mod Copies
 pub mod Uses
+pub mod Nodes

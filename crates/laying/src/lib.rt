@@ -6,17 +6,42 @@ ghost use lib.ListN.{length, getD, set};
 ghost use lib.Seq.{sets};
 ghost use Rattle.table.specs.Rows.{kindOf, size};
 ghost use Rattle.table.specs.Scan.{home};
-ghost use Rattle.carrying.specs.Kept.{Passing, Bodies, Pairs, Uses, OnTheWay};
+ghost use Rattle.carrying.specs.Kept.{Passing, Bodies, Pairs, Uses, Bases, OnTheWay};
 ghost use Rattle.laying.specs.Entering.{Room, copyRows, Entering, Entered, Resolved, Takes, Carries};
 ghost use Rattle.laying.specs.Using.{Counting, UseAt, UseResolved, UsesResolved, Values};
+ghost use Rattle.laying.specs.Rows.{Known, RowLaid, RowsLaid, OutsLaid};
 
 // Stands for an absent input.
 const X: u32 = 4294967295;
 
 // The kinds of nodes.
+const STREAM: u32 = 0;
+
+const GATE: u32 = 1;
+
+const CARRY: u32 = 2;
+
 const INVARIANT: u32 = 3;
 
 const SPLIT: u32 = 4;
+
+const OP: u32 = 7;
+
+const PICK: u32 = 8;
+
+// The kinds of rows that lay down nodes, and of those that give results.
+const ROW_OP: u32 = 2;
+
+const ROW_PICK: u32 = 3;
+
+const ROW_FOR: u32 = 4;
+
+const ROW_ARG: u32 = 5;
+
+const ROW_OUT: u32 = 8;
+
+// The operator of the first condition.
+const CONDITIONS: u32 = 3;
 
 // One word of the rows.
 fn put(rows: &mut [u32; 28672], i: u32, w: u32)
@@ -267,5 +292,181 @@ fn resolve_values(
             v,
         );
         v += 1;
+    }
+}
+
+// The wire at place p.
+fn wire_of(at: &[u32; 1536], p: u32) -> u32
+    requires { ⌜ p < 1536 ⌝ }
+    ensures { λ w. ⌜ w ≡ getD (now (at .entry)) p 0 ⌝ }
+{
+    at[p as usize]
+}
+
+// OP: one node.
+fn lay_op(
+    table: &[u32],
+    n: u32,
+    bodies: &[u32; 512],
+    pairs: &[u32; 512],
+    nodes: &[u32; 512],
+    wires: &[u32; 512],
+    at: &[u32; 1536],
+    rows: &mut [u32; 28672],
+    r: u32,
+)
+    requires { ⌜ Known (now table) n (now bodies) (now pairs) (now nodes) (now wires) (now at) × (r < n) × (kindOf (now table) r ≡ 2) × (length (now rows) ≡ 28672) ⌝ }
+    ensures { λ u. ⌜ RowLaid (now (table .entry)) r (now (rows .entry)) (now (rows .exit)) ⌝ }
+{
+    let i = carrying::body_at(nodes, r);
+    let w = carrying::body_at(wires, r);
+    let code = carrying::word_at(table, r, 1);
+    put_row(
+        rows,
+        i,
+        OP,
+        code,
+        0,
+        wire_of(at, 3 * r),
+        wire_of(at, 3 * r + 1),
+        X,
+        w,
+    );
+}
+
+// PICK: one node.
+fn lay_pick(
+    table: &[u32],
+    n: u32,
+    bodies: &[u32; 512],
+    pairs: &[u32; 512],
+    nodes: &[u32; 512],
+    wires: &[u32; 512],
+    at: &[u32; 1536],
+    rows: &mut [u32; 28672],
+    r: u32,
+)
+    requires { ⌜ Known (now table) n (now bodies) (now pairs) (now nodes) (now wires) (now at) × (r < n) × (kindOf (now table) r ≡ 3) × (length (now rows) ≡ 28672) ⌝ }
+    ensures { λ u. ⌜ RowLaid (now (table .entry)) r (now (rows .entry)) (now (rows .exit)) ⌝ }
+{
+    let i = carrying::body_at(nodes, r);
+    let w = carrying::body_at(wires, r);
+    let a = wire_of(at, 3 * r);
+    let b = wire_of(at, 3 * r + 1);
+    let c = wire_of(at, 3 * r + 2);
+    put_row(rows, i, PICK, 0, 0, a, b, c, w);
+}
+
+// FOR: STREAM(start, step, bound), GATE(raw index, raw condition), and a guard, an OP comparing start with bound.
+fn lay_loop(
+    table: &[u32],
+    n: u32,
+    bodies: &[u32; 512],
+    pairs: &[u32; 512],
+    nodes: &[u32; 512],
+    wires: &[u32; 512],
+    at: &[u32; 1536],
+    rows: &mut [u32; 28672],
+    r: u32,
+)
+    requires { ⌜ Known (now table) n (now bodies) (now pairs) (now nodes) (now wires) (now at) × (r < n) × (kindOf (now table) r ≡ 4) × (length (now rows) ≡ 28672) ⌝ }
+    ensures { λ u. ⌜ RowLaid (now (table .entry)) r (now (rows .entry)) (now (rows .exit)) ⌝ }
+{
+    let i = carrying::body_at(nodes, r);
+    let w = carrying::body_at(wires, r);
+    let update = carrying::word_at(table, r, 4);
+    let condition = carrying::word_at(table, r, 5);
+    let a = wire_of(at, 3 * r);
+    let b = wire_of(at, 3 * r + 1);
+    let c = wire_of(at, 3 * r + 2);
+    put_row(rows, i, STREAM, 5 * update + condition, 0, a, b, c, w);
+    put_row(rows, i + 1, GATE, 0, 0, w, w + 1, X, w + 2);
+    put_row(rows, i + 2, OP, CONDITIONS + condition, 0, a, c, X, w + 4);
+}
+
+// ARG: CARRY(raw condition, initial, next), SPLIT(raw condition, carry).
+fn lay_arg(
+    table: &[u32],
+    n: u32,
+    bodies: &[u32; 512],
+    pairs: &[u32; 512],
+    nodes: &[u32; 512],
+    wires: &[u32; 512],
+    at: &[u32; 1536],
+    rows: &mut [u32; 28672],
+    r: u32,
+)
+    requires { ⌜ Known (now table) n (now bodies) (now pairs) (now nodes) (now wires) (now at) × (r < n) × (kindOf (now table) r ≡ 5) × (length (now rows) ≡ 28672) ⌝ }
+    ensures { λ u. ⌜ RowLaid (now (table .entry)) r (now (rows .entry)) (now (rows .exit)) ⌝ }
+{
+    let i = carrying::body_at(nodes, r);
+    let w = carrying::body_at(wires, r);
+    let raw = carrying::body_at(wires, carrying::body_at(bodies, r)) + 1;
+    let next = carrying::body_at(pairs, r);
+    put_row(
+        rows,
+        i,
+        CARRY,
+        0,
+        0,
+        raw,
+        wire_of(at, 3 * r),
+        wire_of(at, 3 * next),
+        w,
+    );
+    put_row(rows, i + 1, SPLIT, 0, 0, raw, w, X, w + 1);
+}
+
+// The nodes of row r, but for the copies of a loop.
+fn lay_row(
+    table: &[u32],
+    n: u32,
+    bodies: &[u32; 512],
+    pairs: &[u32; 512],
+    nodes: &[u32; 512],
+    wires: &[u32; 512],
+    at: &[u32; 1536],
+    rows: &mut [u32; 28672],
+    r: u32,
+)
+    requires { ⌜ Known (now table) n (now bodies) (now pairs) (now nodes) (now wires) (now at) × (r < n) × (length (now rows) ≡ 28672) ⌝ }
+    ensures { λ u. ⌜ RowLaid (now (table .entry)) r (now (rows .entry)) (now (rows .exit)) ⌝ }
+{
+    let kind = carrying::kind_at(table, r);
+    if kind == ROW_OP {
+        lay_op(table, n, bodies, pairs, nodes, wires, at, rows, r);
+        return;
+    }
+    if kind == ROW_PICK {
+        lay_pick(table, n, bodies, pairs, nodes, wires, at, rows, r);
+        return;
+    }
+    if kind == ROW_FOR {
+        lay_loop(table, n, bodies, pairs, nodes, wires, at, rows, r);
+        return;
+    }
+    if kind == ROW_ARG {
+        lay_arg(table, n, bodies, pairs, nodes, wires, at, rows, r);
+    }
+}
+
+// The nodes of all rows.
+fn lay_rows(
+    table: &[u32],
+    n: u32,
+    bodies: &[u32; 512],
+    pairs: &[u32; 512],
+    nodes: &[u32; 512],
+    wires: &[u32; 512],
+    at: &[u32; 1536],
+    rows: &mut [u32; 28672],
+)
+    requires { ⌜ Known (now table) n (now bodies) (now pairs) (now nodes) (now wires) (now at) × (length (now rows) ≡ 28672) ⌝ }
+    ensures { λ u. ⌜ RowsLaid (now (table .entry)) n (now (rows .entry)) (now (rows .exit)) ⌝ }
+{
+    let mut r: u32 = 0;
+    while r < n {
+        lay_row(table, n, bodies, pairs, nodes, wires, at, rows, r);
+        r += 1;
     }
 }
