@@ -1,36 +1,34 @@
 -- How a value is entered into one loop, and from there on: the copy that is there, the copy that is made, the way out to its home.
 -- Assumes nothing.
-use Prim.Native.Nat.{ℕ, zero, suc, _+_, _*_, _≤_, _<_}
+use Prim.Native.Nat.{ℕ, suc, _+_, _*_, _≤_, _<_}
 use mathlib.Core.Path.{_≡_, refl, sym, ap, _∙_, subst}
 use mathlib.Core.Logic.{_≢_, _⊎_, inl, inr}
-use mathlib.Core.Bool.{Bool, true, false, cond}
+use mathlib.Core.Bool.{true}
 use mathlib.Core.List.{List, [], _∷_}
 use native.Mathlib.Omega.{arith}
 use native.Mathlib.Decide.{ℕ-discrete}
 use borrow.Author.Tests.{eq-eqb, ne-eqb}
-use lib.Dec.{eqb}
 use lib.ListN.{length, getD, set, length-set}
 use lib.Seq.{sets, length-sets, getD-set-same, getD-set-other}
 use Rattle.step.specs.Kinds.{SPLIT, INVARIANT}
 use Rattle.graph.specs.Graph.{absent}
-use Rattle.table.specs.Rows.{kindOf, size, sortOf}
+use Rattle.table.specs.Rows.{size, sortOf}
 use Rattle.table.specs.Scan.{bodyOf, reads, home}
-use Rattle.structure.specs.Structure.{Structure, right-table-has-structure}
+use Rattle.structure.specs.Structure.{Structure}
 use Rattle.lowered.specs.Roles.{copySplit, copyInvariant}
 use Rattle.lowered.specs.Sources.{carried}
 use Rattle.lowered.specs.Lower.{carriedInto}
 use Rattle.laid.specs.Lists.{in-range}
 use Rattle.laid.specs.Bases.{nodeBase, wireBase, copyPlace, those-at}
 use Rattle.laid.specs.Wired.{homeNumber, valueNumber}
-use Rattle.written.specs.Plain.{RightRow}
 use Rattle.written.specs.Places.{copy-split-place, copy-invariant-place, copy-split-node, copy-invariant-node}
 use Rattle.laid.specs.Scanned.{Walks, here, further, walk-stops}
 use Rattle.carrying.specs.Kept.{Passing, Bases, OnTheWay}
 use Rattle.carrying.specs.Way.{is-loop}
-use Rattle.laying.specs.Entering.{Room, copyRows, Entering, RightCopy, RightCopies, Sound, Entered, Resolved, Takes, Carries}
+use Rattle.laying.specs.Entering.{Room, copyRows, Entering, RightCopy, Sound, Entered, Resolved, Takes, Carries}
 use Rattle.laying.proofs.Putting.{Put, laid}
 
-pub value-at-home : (t : List ℕ) (v b : ℕ) → home t v ≡ b → valueNumber t v b ≡ homeNumber t v
+value-at-home : (t : List ℕ) (v b : ℕ) → home t v ≡ b → valueNumber t v b ≡ homeNumber t v
 unfolding valueNumber
 value-at-home t v b e = rw (eq-eqb (home t v) b e)
 
@@ -61,9 +59,9 @@ module _ (t nodes wires : List ℕ) (R : Room t nodes wires) (v b : ℕ) (T : Ta
       ]
 
   -- ---- the copy is there
-  pub entered-there : (S : Structure t) (counts lasts rows : List ℕ) (outer w place : ℕ) → Entering t v counts lasts → length rows ≡ 28672 → w ≡ getD wires b 0 → place ≡ getD counts b 0 → getD lasts b 0 ≡ suc v
+  pub entered-there : (counts lasts rows : List ℕ) (outer w place : ℕ) → Entering t v counts lasts → length rows ≡ 28672 → w ≡ getD wires b 0 → place ≡ getD counts b 0 → getD lasts b 0 ≡ suc v
       → Entered t v b nodes wires outer lasts rows counts lasts rows (w + 4 + 3 * place)
-  entered-there S counts lasts rows outer w place E long p q e =
+  entered-there counts lasts rows outer w place E long p q e =
       record {
         next = E;
         kept = λ L z. z;
@@ -166,7 +164,20 @@ module _ (t nodes wires : List ℕ) (R : Room t nodes wires) (v b : ℕ) (T : Ta
             ∙ length-sets rows (7 * (i + 3 + 2 * place)) (4 ∷ 0 ∷ sort ∷ (w + 4) ∷ outer ∷ absent ∷ (w + 5 + 3 * place) ∷ []) ∙ long
 
 -- ---- the way out
-module _ (t : List ℕ) (n : ℕ) (p : Passing t n) (nodes wires : List ℕ) (v h b own : ℕ) (eh : h ≡ home t v) where
+module _ (t : List ℕ) (n : ℕ) (p : Passing t n) (v h b : ℕ) (eh : h ≡ home t v) (d : b ≢ h) (way : OnTheWay t v b) (C : Carries t v b) (lv : v < n) where
+  abroad : home t v ≢ b
+  abroad z = d (sym z ∙ sym eh)
+
+  pub takes : Takes t v b
+  takes =
+      let l = is-loop t n p v h b eh d way in
+      let r = p .rows in
+      record { loop = l .0; is-for = l .1; carries = C b (here abroad); value = omega arith; abroad = abroad }
+
+  pub carries-on : (x : ℕ) → x ≡ bodyOf t b → Carries t v x
+  carries-on x e L w = C L (further abroad (subst (Walks t v L) e w))
+
+module _ (t nodes wires : List ℕ) (v h b own : ℕ) (eh : h ≡ home t v) where
   pub at-home : (counts lasts rows : List ℕ) → b ≡ h → Entering t v counts lasts → length rows ≡ 28672 → Resolved t v b nodes wires own lasts rows counts lasts rows own
   at-home counts lasts rows e E long =
       record {
@@ -177,37 +188,24 @@ module _ (t : List ℕ) (n : ℕ) (p : Passing t n) (nodes wires : List ℕ) (v 
         right = λ B o. record { value = o ∙ sym (value-at-home t v b (sym (e ∙ eh))); stays = λ i r. r; copies = λ C. C };
       }
 
-  module _ (d : b ≢ h) (way : OnTheWay t v b) (C : Carries t v b) (lv : v < n) where
-    abroad : home t v ≢ b
-    abroad z = d (sym z ∙ sym eh)
+  pub resolved-on : (x outer w : ℕ) (lasts rows counts₁ lasts₁ rows₁ counts₂ lasts₂ rows₂ : List ℕ) → x ≡ bodyOf t b
+      → Resolved t v x nodes wires own lasts rows counts₁ lasts₁ rows₁ outer → Entered t v b nodes wires outer lasts₁ rows₁ counts₂ lasts₂ rows₂ w
+      → Resolved t v b nodes wires own lasts rows counts₂ lasts₂ rows₂ w
+  resolved-on x outer w lasts rows counts₁ lasts₁ rows₁ counts₂ lasts₂ rows₂ e R E =
+      record {
+        next = E .next;
+        kept = λ L z. E .kept L (R .kept L z);
+        passed = λ L z. pass L z;
+        long = E .long;
+        right = λ B o. both (R .right B o) (E .right B (R .right B o .value ∙ ap (valueNumber t v) e));
+      }
+    where
+      split : (L c : ℕ) → Walks t v L c → (L ≡ c) ⊎ Walks t v L (bodyOf t c)
+      split L c (here q) = inl refl
+      split L c (further q z) = inr z
 
-    pub takes : Takes t v b
-    takes =
-        let l = is-loop t n p v h b eh d way in
-        let r = p .rows in
-        record { loop = l .0; is-for = l .1; carries = C b (here abroad); value = omega arith; abroad = abroad }
+      pass : (L : ℕ) → Walks t v L b → getD lasts₂ L 0 ≡ suc v
+      pass L z = elim (split L b z) [ inl q ↦ ap (λ (k : ℕ). getD lasts₂ k 0) q ∙ E .here | inr y ↦ E .kept L (R .passed L (subst (Walks t v L) (sym e) y)) ]
 
-    pub carries-on : (x : ℕ) → x ≡ bodyOf t b → Carries t v x
-    carries-on x e L w = C L (further abroad (subst (Walks t v L) e w))
-
-    pub resolved-on : (x outer w : ℕ) (lasts rows counts₁ lasts₁ rows₁ counts₂ lasts₂ rows₂ : List ℕ) → x ≡ bodyOf t b
-        → Resolved t v x nodes wires own lasts rows counts₁ lasts₁ rows₁ outer → Entered t v b nodes wires outer lasts₁ rows₁ counts₂ lasts₂ rows₂ w
-        → Resolved t v b nodes wires own lasts rows counts₂ lasts₂ rows₂ w
-    resolved-on x outer w lasts rows counts₁ lasts₁ rows₁ counts₂ lasts₂ rows₂ e R E =
-        record {
-          next = E .next;
-          kept = λ L z. E .kept L (R .kept L z);
-          passed = λ L z. pass L z;
-          long = E .long;
-          right = λ B o. both (R .right B o) (E .right B (R .right B o .value ∙ ap (valueNumber t v) e));
-        }
-      where
-        split : (L c : ℕ) → Walks t v L c → (L ≡ c) ⊎ Walks t v L (bodyOf t c)
-        split L c (here q) = inl refl
-        split L c (further q z) = inr z
-
-        pass : (L : ℕ) → Walks t v L b → getD lasts₂ L 0 ≡ suc v
-        pass L z = elim (split L b z) [ inl q ↦ ap (λ (k : ℕ). getD lasts₂ k 0) q ∙ E .here | inr y ↦ E .kept L (R .passed L (subst (Walks t v L) (sym e) y)) ]
-
-        both : Sound t v x lasts rows lasts₁ rows₁ outer → Sound t v b lasts₁ rows₁ lasts₂ rows₂ w → Sound t v b lasts rows lasts₂ rows₂ w
-        both P Q = record { value = Q .value; stays = λ i r. Q .stays i (P .stays i r); copies = λ K. Q .copies (P .copies K) }
+      both : Sound t v x lasts rows lasts₁ rows₁ outer → Sound t v b lasts₁ rows₁ lasts₂ rows₂ w → Sound t v b lasts rows lasts₂ rows₂ w
+      both P Q = record { value = Q .value; stays = λ i r. Q .stays i (P .stays i r); copies = λ K. Q .copies (P .copies K) }

@@ -2,7 +2,7 @@
 use Prim.Native.Nat.{ℕ, zero, suc, _+_, _*_, _≤_, _<_}
 use mathlib.Core.Path.{_≡_, refl, sym, ap, _∙_, subst}
 use mathlib.Core.Logic.{_≢_, _⊎_, inl, inr}
-use mathlib.Core.Bool.{Bool, true, false, cond}
+use mathlib.Core.Bool.{true}
 use mathlib.Core.List.{List, [], _∷_, _++_}
 use native.Mathlib.Omega.{arith}
 use native.Mathlib.Decide.{ℕ-discrete}
@@ -11,13 +11,13 @@ use lib.Seq.{sets}
 use Rattle.step.specs.Kinds.{STREAM, GATE, CARRY, SPLIT, OP, PICK}
 use Rattle.graph.specs.Graph.{absent}
 use Rattle.table.specs.Rows.{kindOf, word, size, operandCount}
-use Rattle.table.specs.Scan.{bodyOf, reads}
-use Rattle.table.specs.Bodies.{operand, nextOf}
+use Rattle.table.specs.Scan.{bodyOf}
+use Rattle.table.specs.Bodies.{nextOf}
 use Rattle.structure.specs.Structure.{Structure, right-table-has-structure}
 use Rattle.lowered.specs.Gathered.{gathered}
 use Rattle.lowered.specs.Roles.{opNode, stream, gate, guard, carry, argSplit}
 use Rattle.lowered.specs.Sources.{isOp}
-use Rattle.lowered.specs.Lower.{carriedInto, rowRoles, roles, plainNodes}
+use Rattle.lowered.specs.Lower.{rowRoles, roles, plainNodes}
 use Rattle.laid.specs.Lists.{below-or-last}
 use Rattle.laid.specs.Made.{op-kind}
 use Rattle.laid.specs.Reached.{in-table}
@@ -25,7 +25,6 @@ use Rattle.laid.specs.Bases.{nodeBase, wireBase, node-base-op, node-base-for, n
 use Rattle.laid.specs.Sourced.{operandNumber}
 use Rattle.written.specs.Plain.{RightRow}
 use Rattle.written.specs.Places.{op-place, stream-place, gate-place, guard-place, carry-place, arg-split-place, op-node, pick-node, stream-node, gate-node, guard-node, carry-node, arg-split-node}
-use Rattle.carrying.specs.Kept.{Passing, IsUse}
 use Rattle.laying.specs.Rows.{Known, RowRight, RowLaid, RowsLaid}
 use Rattle.laying.proofs.Putting.{Put, laid}
 

@@ -1,46 +1,37 @@
 -- How the operands that name a value get their wires, one after the other, and what is known when all have theirs. Assumes nothing.
-use Prim.Native.Nat.{ℕ, zero, suc, _+_, _-_, _*_, _/_, _≤_, _<_}
+use Prim.Native.Nat.{ℕ, suc, _+_, _-_, _*_, _/_, _≤_, _<_}
 use mathlib.Core.Path.{_≡_, refl, sym, ap, ap₂, _∙_, subst, subst₂}
 use mathlib.Core.Logic.{_≢_, _⊎_, inl, inr}
-use mathlib.Core.Bool.{Bool, true, false, cond}
-use mathlib.Core.List.{List, [], _∷_}
+use mathlib.Core.Bool.{Bool, true, false}
+use mathlib.Core.List.{List}
 use native.Mathlib.Omega.{arith}
 use native.Mathlib.Decide.{ℕ-discrete, decLt}
-use lib.ListN.{length, getD, set, length-set, length-append}
+use lib.ListN.{length, getD, set, length-set}
 use lib.Seq.{getD-set-same, getD-set-other}
-use Rattle.table.specs.Rows.{kindOf, size, operandCount}
-use Rattle.table.specs.Scan.{bodyOf, reads, home}
+use Rattle.table.specs.Rows.{kindOf, size}
+use Rattle.table.specs.Scan.{reads}
 use Rattle.table.specs.Bodies.{operand}
-use Rattle.structure.specs.Spans.{Encloses}
 use Rattle.structure.specs.Structure.{Structure, right-table-has-structure}
-use Rattle.lowered.specs.Gathered.{those}
 use Rattle.lowered.specs.Sources.{carried}
 use Rattle.lowered.specs.Lower.{carriedInto}
 use Rattle.laid.specs.Listed.{no-both}
 use Rattle.laid.specs.Bases.{copyPlace}
-use Rattle.laid.specs.Wired.{homeNumber, valueNumber}
-use Rattle.laid.specs.Sourced.{operandNumber}
+use Rattle.laid.specs.Wired.{valueNumber}
 use Rattle.laid.specs.Scanned.{Walks, walked-is-carried, carried-is-walked, reads-body-or-rim}
-use Rattle.written.specs.Plain.{RightRow}
-use Rattle.carrying.specs.Kept.{Passing, Bases, OnTheWay, IsUse, UseOrNone, Uses, homeFrom, Counted}
+use Rattle.carrying.specs.Kept.{Passing, OnTheWay, IsUse, UseOrNone, Uses, homeFrom, Counted}
 use Rattle.carrying.specs.Homes.{home-from-bases}
 use Rattle.carrying.proofs.Linking.{at-most-three}
-use Rattle.laying.specs.Entering.{Entering, RightCopy, RightCopies, Sound, Resolved, Carries}
+use Rattle.laying.specs.Entering.{RightCopy, Sound, Resolved, Carries}
+use Rattle.laying.proofs.Those
 use Rattle.laying.specs.Using.{Counting, UseAt, UseRight, UseResolved, UsingRight, Using, UsesRight, UsesResolved, ValuesRight, Values}
 
 place-after : (t : List ℕ) (L v : ℕ) → carried t L v ≡ true → copyPlace t L (suc v) ≡ suc (copyPlace t L v)
-unfolding copyPlace those
-place-after t L v h =
-    let a = length-append (those (carried t L) v) (cond (carried t L v) (v ∷ []) []) in
-    let b : length (cond (carried t L v) (v ∷ []) []) ≡ 1 = ap (λ (x : Bool). length (cond x (v ∷ []) [])) h in
-    omega arith
+unfolding copyPlace
+place-after t L v h = Those.one-more (carried t L) v h
 
 place-same : (t : List ℕ) (L v : ℕ) → carried t L v ≡ false → copyPlace t L (suc v) ≡ copyPlace t L v
-unfolding copyPlace those
-place-same t L v h =
-    let a = length-append (those (carried t L) v) (cond (carried t L v) (v ∷ []) []) in
-    let b : length (cond (carried t L v) (v ∷ []) []) ≡ 0 = ap (λ (x : Bool). length (cond x (v ∷ []) [])) h in
-    omega arith
+unfolding copyPlace
+place-same t L v h = Those.no-more (carried t L) v h
 
 all-places : (t : List ℕ) (L : ℕ) → copyPlace t L (size t) ≡ length (carriedInto t L)
 unfolding copyPlace carriedInto

@@ -1,5 +1,7 @@
 -- How the nodes of the rows are laid down, and the results.
 --
+--   Noted             what is noted of the rows before anything is counted
+--   Operands          every operand has its wire
 --   Known             all numbers are right: bases that fit, and every operand's wire
 --   RowLaid           the nodes of row r, but for the copies of a loop, are laid down right, and every right row stays
 --   RowsLaid          the same of the rows before r
@@ -10,16 +12,25 @@ use Prim.Native.Nat.{ℕ, _+_, _*_, _≤_, _<_}
 use mathlib.Core.Bool.{true}
 use mathlib.Core.Path.{_≡_}
 use mathlib.Core.List.{List}
-use mathlib.Core.Option.{some}
-use lib.ListN.{length, getD, getElem?}
-use Rattle.table.specs.Rows.{kindOf, size}
+use lib.ListN.{length, getD}
+use Rattle.table.specs.Rows.{kindOf}
 use Rattle.lowered.specs.Gathered.{those}
 use Rattle.lowered.specs.Sources.{isOp}
 use Rattle.lowered.specs.Lower.{plainNodes, isOut}
 use Rattle.laid.specs.Bases.{nodeBase}
 use Rattle.laid.specs.Sourced.{operandNumber}
 use Rattle.written.specs.Plain.{RightRow}
-use Rattle.carrying.specs.Kept.{Passing, Bodies, Pairs, Bases, Low, IsUse}
+use Rattle.carrying.specs.Kept.{Passing, Bodies, Pairs, Uses, Bases, Low, IsUse}
+
+pub record Noted (t : List ℕ) (n : ℕ) (bodies pairs heads links : List ℕ) : Type 0 where
+  pub passing : Passing t n
+  pub bodies-noted : Bodies t n bodies
+  pub pairs-noted : Pairs t pairs
+  pub uses-noted : Uses t (3 * n) heads links
+
+-- every operand has its wire
+abbrev pub Operands : List ℕ → List ℕ → Type 0
+Operands t at = (r j : ℕ) → IsUse t r j → getD at (3 * r + j) 0 ≡ operandNumber t r j
 
 pub record Known (t : List ℕ) (n : ℕ) (bodies pairs nodes wires at : List ℕ) : Type 0 where
   pub passing : Passing t n
@@ -28,7 +39,7 @@ pub record Known (t : List ℕ) (n : ℕ) (bodies pairs nodes wires at : List �
   pub bases : Bases t nodes wires
   pub low : Low wires
   pub fit : plainNodes t ≤ 4096
-  pub operands : (r j : ℕ) → IsUse t r j → getD at (3 * r + j) 0 ≡ operandNumber t r j
+  pub operands : Operands t at
 
 pub record RowRight (t : List ℕ) (r : ℕ) (rows : List ℕ) : Type 0 where
   pub op : isOp t r ≡ true → RightRow t rows (nodeBase t r)
@@ -45,8 +56,8 @@ pub record RowsLaid (t : List ℕ) (r : ℕ) (rows rows′ : List ℕ) : Type 0 
   pub stays : (i : ℕ) → RightRow t rows i → RightRow t rows′ i
   pub long : length rows′ ≡ 28672
 
--- k is how many they are
+-- k is how many they are; each stands behind those of the OUT rows before it
 pub record OutsLaid (t : List ℕ) (r k : ℕ) (outs : List ℕ) : Type 0 where
   pub long : length outs ≡ 512
   pub count : k ≡ length (those (isOut t) r)
-  pub out : (i q : ℕ) → getElem? (those (isOut t) r) i ≡ some q → getD outs i 0 ≡ operandNumber t q 0
+  pub out : (q : ℕ) → q < r → isOut t q ≡ true → getD outs (length (those (isOut t) q)) 0 ≡ operandNumber t q 0

@@ -1,15 +1,17 @@
 // The nodes of a table that has passed refusals 1 to 9, before forks: counted first, then laid down in rows of seven words.
 ghost use mathlib.Core.Path.{_≡_};
 ghost use mathlib.Core.List.{[], _∷_};
-ghost use Prim.Native.Nat.{ℕ, _+_, _*_, _<_, _≤_};
+ghost use Prim.Native.Nat.{_+_, _*_, _<_, _≤_};
 ghost use lib.ListN.{length, getD, set};
 ghost use lib.Seq.{sets};
-ghost use Rattle.table.specs.Rows.{kindOf, size};
+ghost use Rattle.table.specs.Rows.{kindOf};
 ghost use Rattle.table.specs.Scan.{home};
-ghost use Rattle.carrying.specs.Kept.{Passing, Bodies, Pairs, Uses, Bases, OnTheWay};
+ghost use Rattle.lowered.specs.Lower.{plainNodes, plainWires, startTotal, resultTotal};
+ghost use Rattle.written.specs.Plain.{Laid, Outs};
+ghost use Rattle.carrying.specs.Kept.{Passing, Bodies, Pairs, Uses, Counted, Bases, Low, OnTheWay};
 ghost use Rattle.laying.specs.Entering.{Room, copyRows, Entering, Entered, Resolved, Takes, Carries};
 ghost use Rattle.laying.specs.Using.{Counting, UseAt, UseResolved, UsesResolved, Values};
-ghost use Rattle.laying.specs.Rows.{Known, RowLaid, RowsLaid, OutsLaid};
+ghost use Rattle.laying.specs.Rows.{Noted, Operands, Known, RowLaid, RowsLaid, OutsLaid};
 
 // Stands for an absent input.
 const X: u32 = 4294967295;
@@ -468,5 +470,154 @@ fn lay_rows(
     while r < n {
         lay_row(table, n, bodies, pairs, nodes, wires, at, rows, r);
         r += 1;
+    }
+}
+
+// The result of row r, where it is an OUT row: the k-th. How many there are then.
+fn lay_out(table: &[u32], n: u32, at: &[u32; 1536], outs: &mut [u32; 512], r: u32, k: u32) -> u32
+    requires { ⌜ Passing (now table) n × Operands (now table) (now at) × (r < n) × OutsLaid (now table) r k (now outs) ⌝ }
+    ensures { λ m. ⌜ OutsLaid (now (table .entry)) (r + 1) m (now (outs .exit)) ⌝ }
+{
+    if carrying::kind_at(table, r) == ROW_OUT {
+        outs[k as usize] = wire_of(at, 3 * r);
+        return k + 1;
+    }
+    k
+}
+
+// The wire of each result.
+fn lay_outs(table: &[u32], n: u32, at: &[u32; 1536], outs: &mut [u32; 512])
+    requires { ⌜ Passing (now table) n × Operands (now table) (now at) × (length (now outs) ≡ 512) ⌝ }
+    ensures { λ u. ⌜ Outs (now (table .entry)) (now (outs .exit)) ⌝ }
+{
+    let mut k: u32 = 0;
+    let mut r: u32 = 0;
+    while r < n {
+        k = lay_out(table, n, at, outs, r, k);
+        r += 1;
+    }
+}
+
+// How many values each loop carries: a walk over the values with all bases 0, which leaves nothing right in the rows.
+fn count_copies(
+    table: &[u32],
+    n: u32,
+    bodies: &[u32; 512],
+    pairs: &[u32; 512],
+    heads: &[u32; 512],
+    links: &[u32; 1536],
+    rows: &mut [u32; 28672],
+) -> [u32; 512]
+    requires { ⌜ Noted (now table) n (now bodies) (now pairs) (now heads) (now links) × (length (now rows) ≡ 28672) ⌝ }
+    ensures { λ a. ⌜ Counted (now (table .entry)) a × (length (now (rows .exit)) ≡ 28672) ⌝ }
+{
+    let nodes = [0u32; 512];
+    let wires = [0u32; 512];
+    let mut counts = [0u32; 512];
+    let mut lasts = [0u32; 512];
+    let mut at = [0u32; 1536];
+    resolve_values(
+        table,
+        n,
+        bodies,
+        pairs,
+        heads,
+        links,
+        &nodes,
+        &wires,
+        &mut counts,
+        &mut lasts,
+        rows,
+        &mut at,
+    );
+    counts
+}
+
+// The nodes and results of a table whose nodes fit: the copies, the rows, the results.
+fn lay_all(
+    table: &[u32],
+    n: u32,
+    bodies: &[u32; 512],
+    pairs: &[u32; 512],
+    heads: &[u32; 512],
+    links: &[u32; 1536],
+    nodes: &[u32; 512],
+    wires: &[u32; 512],
+    rows: &mut [u32; 28672],
+    outs: &mut [u32; 512],
+)
+    requires { ⌜ Noted (now table) n (now bodies) (now pairs) (now heads) (now links) × Bases (now table) (now nodes) (now wires) × Low (now wires) × (plainNodes (now table) ≤ 4096) × (length (now rows) ≡ 28672) × (length (now outs) ≡ 512) ⌝ }
+    ensures { λ u. ⌜ Laid (now (table .entry)) (now (rows .exit)) × Outs (now (table .entry)) (now (outs .exit)) ⌝ }
+{
+    let mut counts = [0u32; 512];
+    let mut lasts = [0u32; 512];
+    let mut at = [0u32; 1536];
+    resolve_values(
+        table,
+        n,
+        bodies,
+        pairs,
+        heads,
+        links,
+        nodes,
+        wires,
+        &mut counts,
+        &mut lasts,
+        rows,
+        &mut at,
+    );
+    lay_rows(table, n, bodies, pairs, nodes, wires, &at, rows);
+    lay_outs(table, n, &at, outs);
+}
+
+// How many nodes and wires a table has before forks, and how many starts and results.
+pub struct Counts {
+    pub nodes: u32,
+    pub wires: u32,
+    pub starts: u32,
+    pub results: u32,
+}
+
+// Counts what the table lays down, and lays it down where the nodes fit.
+pub fn lay(table: &[u32], n: u32, rows: &mut [u32; 28672], outs: &mut [u32; 512]) -> Counts
+    requires { ⌜ Passing (now table) n × (length (now rows) ≡ 28672) × (length (now outs) ≡ 512) ⌝ }
+    ensures { λ c. ⌜ (c .nodes ≡ plainNodes (now (table .entry))) × (c .wires ≡ plainWires (now (table .entry))) × (c .starts ≡ startTotal (now (table .entry))) × (c .results ≡ resultTotal (now (table .entry))) × ((plainNodes (now (table .entry)) ≤ 4096) → Laid (now (table .entry)) (now (rows .exit)) × Outs (now (table .entry)) (now (outs .exit))) ⌝ }
+{
+    let starts = carrying::count_starts(table, n);
+    let results = carrying::count_results(table, n);
+    let bodies = carrying::note_bodies(table, n);
+    let pairs = carrying::note_pairs(table, n, &bodies);
+    let mut heads = [0u32; 512];
+    let mut links = [0u32; 1536];
+    carrying::note_uses(table, n, &mut heads, &mut links);
+    let counts = count_copies(table, n, &bodies, &pairs, &heads, &links, rows);
+    let mut nodes = [0u32; 512];
+    let mut wires = [0u32; 512];
+    let plain = carrying::note_bases(table, n, starts, &counts, &mut nodes, &mut wires);
+    if 4096 < plain.nodes {
+        return Counts {
+            nodes: plain.nodes,
+            wires: plain.wires,
+            starts: starts,
+            results: results,
+        };
+    }
+    lay_all(
+        table,
+        n,
+        &bodies,
+        &pairs,
+        &heads,
+        &links,
+        &nodes,
+        &wires,
+        rows,
+        outs,
+    );
+    Counts {
+        nodes: plain.nodes,
+        wires: plain.wires,
+        starts: starts,
+        results: results,
     }
 }

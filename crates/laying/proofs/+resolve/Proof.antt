@@ -30,7 +30,7 @@ resolve-returns : (t : ℕ) → resolve-lts.Need-returns (
   enter-reads.Asked,
   enter-reads.Learnt,
 ) (resolve-at t) resolve.Post
-resolve-returns t c = let P = c .before .before .pre .1 in at-home _ _ (P .0) _ _ _ _ _ _ (P .3) _ _ _ (c .if1 .taken) (P .7) (P .8)
+resolve-returns t c = let P = c .before .before .pre .1 in at-home _ _ _ _ _ _ _ (P .3) _ _ _ (c .if1 .taken) (P .7) (P .8)
 
 resolve-body-at-requires : (t : ℕ) → resolve-lts.Need-body-at-requires (
   body-at-reads.Asked,
@@ -55,7 +55,7 @@ resolve-resolve-requires t c κs = let Q = c .before .before .before .before .be
     let d = c .before .before .before .before .if1 .left in
     let x = noted _ _ (P .0) _ _ _ (P .1) (below _ _ (P .0) _ _ _ (P .3) d (P .4)) (c .before .before .before .body-at .ensures) in (
       rank-below _ _ (P .0) _ _ _ _ _ (Q .0) (P .3) d (P .4) x,
-      (P .0, P .1, P .2, P .3, way-on _ _ (P .0) _ _ _ _ (P .3) d (P .4) x, carries-on _ _ (P .0) (c .before .before .before .before .before .before .args .nodes .now) (c .before .before .before .before .before .before .args .wires .now) _ _ _ (c .before .before .before .before .before .before .args .own) (P .3) d (P .4) (P .5) (P .2) _ x, P .6, P .7, P .8),
+      (P .0, P .1, P .2, P .3, way-on _ _ (P .0) _ _ _ _ (P .3) d (P .4) x, carries-on _ _ (P .0) _ _ _ (P .3) d (P .4) (P .5) (P .2) _ x, P .6, P .7, P .8),
     )
 
 resolve-enter-requires : (t : ℕ) → resolve-lts.Need-enter-requires (
@@ -68,7 +68,7 @@ resolve-enter-requires : (t : ℕ) → resolve-lts.Need-enter-requires (
 ) (resolve-at t) resolve.Post
 resolve-enter-requires t c κs = let P = c .before .before .before .before .before .before .before .before .before .before .pre .1 in
     let R = c .before .before .before .resolve .ensures in
-    (P .0, takes _ _ (P .0) (c .before .before .before .before .before .before .before .before .before .before .args .nodes .now) (c .before .before .before .before .before .before .before .before .before .before .args .wires .now) _ _ _ (c .before .before .before .before .before .before .before .before .before .before .args .own) (P .3) (c .before .before .before .before .before .before .before .before .if1 .left) (P .4) (P .5) (P .2), P .6, R .next, R .long)
+    (P .0, takes _ _ (P .0) _ _ _ (P .3) (c .before .before .before .before .before .before .before .before .if1 .left) (P .4) (P .5) (P .2), P .6, R .next, R .long)
 
 resolve-returns-2 : (t : ℕ) → resolve-lts.Need-returns-2 (
   body-at-reads.Asked,
@@ -81,7 +81,7 @@ resolve-returns-2 : (t : ℕ) → resolve-lts.Need-returns-2 (
 resolve-returns-2 t c = let P = c .before .before .before .before .before .before .before .before .before .before .before .pre .1 in
     let d = c .before .before .before .before .before .before .before .before .before .if1 .left in
     let x = noted _ _ (P .0) _ _ _ (P .1) (below _ _ (P .0) _ _ _ (P .3) d (P .4)) (c .before .before .before .before .before .before .before .before .body-at .ensures) in
-    resolved-on _ _ (P .0) _ _ _ _ _ _ (P .3) d (P .4) (P .5) (P .2) _ _ _ _ _ _ _ _ _ _ _ x (c .before .before .before .before .resolve .ensures) (c .enter .ensures)
+    resolved-on _ _ _ _ _ _ _ (P .3) _ _ _ _ _ _ _ _ _ _ _ x (c .before .before .before .before .resolve .ensures) (c .enter .ensures)
 
 pub +resolve-spec : {M : Type 1} → statement M
 +resolve-spec = close μ-resolve λ t. resolve-lts.spec (

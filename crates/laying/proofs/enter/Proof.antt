@@ -36,7 +36,7 @@ add-result-2 : tie.Need-add-result-2
 add-result-2 c = let P = c .before .before .before .before .before .pre in omega (arith, P .2 .wire (c .before .before .before .before .before .args .b), c .before .before .before .body-at .ensures, place-small _ _ _ (P .2) _ _ (P .1) _ _ _ (P .3) refl)
 
 returns : tie.Need-returns
-returns c = let P = c .before .before .before .before .before .pre in entered-there _ _ _ (P .2) _ _ (P .1) (right-table-has-structure _ (P .0 .right)) _ _ _ _ _ _ (P .3) (P .4) (c .before .before .before .body-at .ensures) refl (c .if1 .taken ∙ add-one _)
+returns c = let P = c .before .before .before .before .before .pre in entered-there _ _ _ (P .2) _ _ (P .1) _ _ _ _ _ _ (P .3) (P .4) (c .before .before .before .body-at .ensures) refl (c .if1 .taken ∙ add-one _)
 
 body-at-requires-2 : tie.Need-body-at-requires-2
 body-at-requires-2 c κs = search needs
