@@ -1,14 +1,12 @@
 -- Uses as the code tallies them, the legs it gives them, and the free numbers it notes.
 -- Assumes nothing.
-use Prim.Native.Nat.{ℕ, zero, suc, _+_, _-_, _*_, _<_, _≤_}
-use mathlib.Core.Path.{_≡_, refl, sym, ap, _∙_, subst}
-use mathlib.Core.Logic.{_⊎_, inl, inr}
-use mathlib.Core.Bool.{Bool, true, false, cond}
+use Prim.Native.Nat.{ℕ, suc, _+_, _-_, _*_, _<_, _≤_}
+use mathlib.Core.Path.{_≡_, sym, ap, _∙_, subst}
+use mathlib.Core.Logic.{inl, inr}
 use mathlib.Core.List.{List, [], _∷_}
 use native.Mathlib.Omega.{arith}
 use native.Mathlib.Decide.{ℕ-discrete}
 use borrow.Author.Tests.{eq-eqb, ne-eqb, le-leb, lt-leb, lt-ltb, le-ltb}
-use lib.Dec.{eqb}
 use lib.ListN.{length, getD, set, length-set}
 use lib.Seq.{getD-set-same, getD-set-other}
 use Rattle.graph.specs.Below.{joined}
@@ -78,14 +76,6 @@ module _ (free uses seen : List ℕ) where
   stands-here {w} {x} e n h = rw (ne-eqb x absent n, ← e) (h ∙ ap (λ (z : ℕ). legAt z (getD free w 0) (getD uses w 0) (getD seen w 0)) (sym e))
 
 -- ---- a table filled place by place
-
-pub filled-more : (t : List ℕ) (j v : ℕ) (f : ℕ → ℕ) → j < length t → ((p : ℕ) → p < j → getD t p 0 ≡ f p) → v ≡ f j
-    → (p : ℕ) → p < j + 1 → getD (set t j v) p 0 ≡ f p
-filled-more t j v f l h e p q =
-    elim (ℕ-discrete j p) [
-      | yes z ↦ subst (λ (x : ℕ). getD (set t j v) x 0 ≡ f x) z (getD-set-same t j v 0 l ∙ e)
-      | no z ↦ getD-set-other t j p v 0 (λ y. z (sym y)) ∙ h p (omega arith)
-    ]
 
 pub below-set : {m : ℕ} {t : List ℕ} (j v : ℕ) → Below m t → v ≤ m → Below m (set t j v)
 below-set {m} {t} j v h l = record { long = length-set t j v ∙ h .long; low = low }

@@ -1,21 +1,21 @@
 -- Words as the code writes them, one part behind another.
 -- Assumes nothing.
 use Prim.Native.Nat.{ℕ, zero, suc, _+_, _-_, _*_, _<_, _≤_}
-use mathlib.Core.Path.{_≡_, refl, sym, ap, _∙_, subst}
-use mathlib.Core.List.{List, [], _∷_, _++_}
-use native.Mathlib.Omega.{arith}
-use lib.ListN.{length, getD, set, length-append}
-use lib.Seq.{sets}
+use mathlib.Core.Path.{_≡_, refl, sym, ap, _∙_}
+use mathlib.Core.List.{List, [], _∷_}
 use mathlib.Core.Bool.{Bool, true, false, cond}
+use native.Mathlib.Omega.{arith}
 use native.Mathlib.Numerals.{add-one}
 use borrow.Author.Tests.{eq-eqb, ne-eqb, lt-ltb, le-ltb}
+use lib.ListN.{length, getD, set, length-append}
+use lib.Seq.{sets}
 use lib.Dec.{eqb}
 use Rattle.word.specs.Words.{flag}
 use Rattle.graph.specs.Below.{joined, total}
+use Rattle.graph.specs.Graph.{absent}
 use Rattle.table.specs.Rows.{kindOf, word}
 use Rattle.lowered.specs.Gathered.{those}
 use Rattle.lowered.specs.Lower.{startWords}
-use Rattle.graph.specs.Graph.{absent}
 use Rattle.lowering.specs.Tallied.{oneMore, tallied}
 use Rattle.lowering.specs.Sorted.{outputsOfRow, sort0, sort1, firstOfRow, sortedRow, sortedRows}
 use Rattle.lowering.specs.Forked.{addedNodes, nodesBy, forkWords, forkWordsBy, fork-words-none, fork-words-more, fork-words-all}
@@ -154,18 +154,3 @@ forks-at sorts uses free at w g {i} {p} {g1} e q h k =
     let l = fork-words-all sorts uses free w in
     written-more (forkWordsBy sorts uses free) w at g h (let z : p ≡ at + length (joined (forkWordsBy sorts uses free) w) = omega arith in z)
     (k ∙ ap (λ (j : ℕ). sets g1 p (forkWords (getD sorts j 0) w (getD uses j 0) (getD free j 0))) e)
-
-pub inputs-few : (t : List ℕ) (r : ℕ) → inputsBefore t r ≤ r
-unfolding those
-inputs-few t zero = omega arith
-inputs-few t (suc r) =
-    let a = inputs-few t r in
-    let m = inputs-more t r in
-    let e : r + 1 ≡ suc r = omega arith in
-    let f = go (eqb (kindOf t r) 0) in
-    let s : inputsBefore t (suc r) ≡ inputsBefore t (r + 1) = ap (inputsBefore t) (sym e) in
-    omega arith
-  where
-    go : (b : Bool) → flag b ≤ 1
-    go true = omega arith
-    go false = omega arith

@@ -7,11 +7,11 @@
 --
 -- Assumes nothing.
 use Prim.Native.Nat.{ℕ, zero, suc, _+_, _-_, _*_, _<_, _≤_}
-use mathlib.Core.Path.{_≡_, refl, sym, ap, ap₂, _∙_}
-use mathlib.Core.Bool.{Bool, true, false, cond}
+use mathlib.Core.Path.{_≡_, refl}
+use mathlib.Core.Bool.{cond}
 use mathlib.Core.List.{List, [], _∷_, _++_}
 use native.Mathlib.Omega.{arith}
-use borrow.Author.Tests.{eq-eqb, ne-eqb}
+use borrow.Author.Tests.{ne-eqb}
 use lib.Dec.{eqb}
 use lib.ListN.{length, getD, length-append}
 use Rattle.graph.specs.Below.{total, joined}
@@ -41,6 +41,8 @@ pub record Freed (uses : List ℕ) (W : ℕ) (table : List ℕ) (more added : �
   pub small : Below 700000000 table
   pub nodes : more ≡ total (nodesBy uses) W
   pub wires : added ≡ total (wiresBy uses) W
+  pub nodes-low : more ≤ 400000000
+  pub wires-low : added ≤ 700000000
 
 -- the words of the forks of wire x: its sort, how many uses it has, the next free number
 unfoldable pub forkWords : ℕ → ℕ → ℕ → ℕ → List ℕ

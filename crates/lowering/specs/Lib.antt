@@ -3,3 +3,5 @@ pub mod Tallied
 pub mod Forked
 pub mod Written
 pub mod Sorted
+pub mod Ready
+pub mod Answers

@@ -4,15 +4,17 @@
 --   oneMore, tallied      the table after one use, after a list of uses
 --   tallied-at            a word has grown by how often its wire stands in the list
 --   tallied-below         and by no more than the list's length
+--   filled-more           a table filled one place further
 --
 -- Assumes nothing.
-use Prim.Native.Nat.{ℕ, zero, suc, _+_, _*_, _<_, _≤_}
-use mathlib.Core.Path.{_≡_, refl, sym, ap, _∙_}
-use mathlib.Core.Logic.{_⊎_, inl, inr}
+use Prim.Native.Nat.{ℕ, _+_, _<_, _≤_}
+use mathlib.Core.Path.{_≡_, refl, sym, _∙_, subst}
+use mathlib.Core.Logic.{_⊎_}
 use mathlib.Core.Bool.{Bool, true, false, cond}
 use mathlib.Core.List.{List, [], _∷_, _++_}
 use native.Mathlib.Omega.{arith}
-use borrow.Author.Tests.{eqb-true, eqb-false, eq-eqb, ne-eqb}
+use native.Mathlib.Decide.{ℕ-discrete}
+use borrow.Author.Tests.{eqb-true, eqb-false}
 use lib.Dec.{eqb}
 use lib.ListN.{length, getD, set, length-set, replicate, getD-replicate, length-replicate}
 use lib.Seq.{getD-set-same, getD-set-other}
@@ -96,9 +98,12 @@ tallied-below {m} {n} seen xs h q = record { long = tallied-long seen xs ∙ h .
 pub none-tallied : Below 0 (replicate 8192 0)
 none-tallied = record { long = length-replicate {A = ℕ} 8192 0; low = λ w h. let e = getD-replicate {A = ℕ} 8192 w 0 0 h in omega arith }
 
-pub tallied-from-none : (xs : List ℕ) (w : ℕ) → w < 8192 → getD (tallied (replicate 8192 0) xs) w 0 ≡ times w xs
-tallied-from-none xs w h =
-    let l = length-replicate {A = ℕ} 8192 0 in
-    let a = tallied-at (replicate 8192 0) xs w (omega arith) (omega arith) in
-    let e = getD-replicate {A = ℕ} 8192 w 0 0 h in
-    omega arith
+-- ---- a table filled place by place
+
+pub filled-more : (t : List ℕ) (j v : ℕ) (f : ℕ → ℕ) → j < length t → ((p : ℕ) → p < j → getD t p 0 ≡ f p) → v ≡ f j
+    → (p : ℕ) → p < j + 1 → getD (set t j v) p 0 ≡ f p
+filled-more t j v f l h e p q =
+    elim (ℕ-discrete j p) [
+      | yes z ↦ subst (λ (x : ℕ). getD (set t j v) x 0 ≡ f x) z (getD-set-same t j v 0 l ∙ e)
+      | no z ↦ getD-set-other t j p v 0 (λ y. z (sym y)) ∙ h p (omega arith)
+    ]

@@ -8,17 +8,17 @@
 --
 -- Assumes nothing.
 use Prim.Native.Nat.{ℕ, zero, suc, _+_, _-_, _*_, _<_, _≤_}
-use mathlib.Core.Path.{_≡_, refl, sym, ap, ap₂, _∙_}
-use mathlib.Core.Bool.{Bool, true, false, cond}
+use mathlib.Core.Path.{_≡_, sym, ap, _∙_}
+use mathlib.Core.Bool.{cond}
 use mathlib.Core.List.{List, [], _∷_, _++_}
 use native.Mathlib.Omega.{arith}
 use lib.Dec.{eqb}
 use lib.ListN.{length, getD, set, length-append}
 use lib.Seq.{sets}
-use Rattle.graph.specs.Below.{joined, total, joined-more, length-joined}
+use Rattle.graph.specs.Below.{joined, joined-more}
 use Rattle.graph.specs.Graph.{absent}
 use Rattle.laid.specs.Counts.{legAt}
-use Rattle.lowering.specs.Tallied.{Place, Below, oneMore, tallied, tallied-append}
+use Rattle.lowering.specs.Tallied.{Place, oneMore, tallied, tallied-append}
 
 abbrev pub rowInputs : List ℕ → ℕ → List ℕ
 rowInputs rows i = getD rows (7 * i + 3) 0 ∷ getD rows (7 * i + 4) 0 ∷ getD rows (7 * i + 5) 0 ∷ []

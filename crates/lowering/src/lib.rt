@@ -1,19 +1,19 @@
 // The last stage of lowering: uses tallied, forks numbered, the graph written. Its entries are the table's check and lowering.
 ghost use mathlib.Core.Path.{_≡_};
-ghost use mathlib.Core.Bool.{cond};
 ghost use mathlib.Core.List.{[], _∷_};
 ghost use Prim.Native.Nat.{ℕ, _+_, _-_, _*_, _<_, _≤_};
 ghost use lib.Dec.{eqb};
-ghost use lib.ListN.{length, getD, replicate};
+ghost use lib.ListN.{length, getD};
 ghost use lib.Seq.{sets};
 ghost use Rattle.word.specs.Words.{flag};
 ghost use Rattle.graph.specs.Below.{joined, total};
-ghost use Rattle.lowered.specs.Lower.{startWords};
+ghost use Rattle.lowered.specs.Lower.{startWords, loweredWords};
 ghost use Rattle.laid.specs.Counts.{legAt};
 ghost use Rattle.lowering.specs.Tallied.{Place, Below, oneMore, tallied};
 ghost use Rattle.lowering.specs.Forked.{addedWires, addedNodes, nodesBy, Freed, forkWords, forkWordsBy};
 ghost use Rattle.lowering.specs.Sorted.{sortedRow, sortedRows, FirstFits};
 ghost use Rattle.lowering.specs.Written.{rowInputs, rowOuts, Sourced, standOf, rowWordsBy, rowWords, outWords, startBy, Scratch, usesOf};
+ghost use Rattle.lowering.specs.Ready.{Counted, Ready};
 
 const FORK: u32 = 5;
 
@@ -132,7 +132,7 @@ fn stand(x: u32, free: &[u32; 8192], uses: &[u32; 8192], seen: &mut [u32; 8192])
     }
     let w = graph::wide(x);
     let wire = leg(x, free[w], uses[w], seen[w]);
-    seen[w] = seen[w] + 1;
+    tally(seen, x);
     wire
 }
 
@@ -344,4 +344,57 @@ fn count_uses(
     tally_rows(rows, nodes, uses);
     tally_outs(outs, results, uses);
     note_free(uses, wires, free)
+}
+
+// The counts of a table's graph, before forks and with them, and whether they are in their limits.
+struct Sizes {
+    plain: u32,
+    sources: u32,
+    nodes: u32,
+    wires: u32,
+    starts: u32,
+    results: u32,
+    room: bool,
+}
+
+fn write_graph(
+    table: &[u32],
+    rows: &[u32; 28672],
+    outs: &[u32; 512],
+    uses: &[u32; 8192],
+    free: &[u32; 8192],
+    sizes: Sizes,
+    graph: &mut [u32],
+)
+    requires { ⌜ Ready (now table) (now rows) (now outs) (now uses) (now free) × Counted (now table) (sizes .plain) (sizes .sources) (sizes .nodes) (sizes .wires) (sizes .starts) (sizes .results) × (length (loweredWords (now table)) ≤ length (now graph)) ⌝ }
+    ensures { λ r. ⌜ now (graph .exit) ≡ sets (now (graph .entry)) 0 (loweredWords (now (table .entry))) ⌝ }
+{
+    let starts = graph::wide(sizes.starts);
+    let results = graph::wide(sizes.results);
+    let plain = graph::wide(sizes.plain);
+    let place = 4 + 2 * starts;
+    four(
+        graph,
+        0,
+        sizes.nodes,
+        sizes.wires,
+        sizes.starts,
+        sizes.results,
+    );
+    write_starts(table, starts, graph, 4);
+    let mut seen = [0u32; 8192];
+    tally_rows(rows, plain, &mut seen);
+    write_results(outs, results, free, uses, &mut seen, graph, place);
+    let mut again = [0u32; 8192];
+    write_rows(rows, plain, free, uses, &mut again, graph, place + results);
+    let mut sorts = [0u32; 8192];
+    note_sorts(rows, plain, &mut sorts);
+    write_forks(
+        &sorts,
+        uses,
+        free,
+        sizes.sources,
+        graph,
+        place + results + 7 * plain,
+    );
 }

@@ -1,13 +1,12 @@
-use Rattle.lowering.proofs.Words.{sorted-more}
-use Rattle.lowering.specs.Sorted.{sortedRows}
-use native.Mathlib.Omega.{arith}
+-- `lowering::note_sorts` meets its contract. The table after i rows holds the sorts of their outputs.
+-- Assumes nothing.
+use Prim.Native.Nat.{_-_, _≤_}
 use mathlib.Core.Path.{_≡_, refl}
-use Prim.Native.Nat.{ℕ, _+_, _-_, _*_, _<_, _≤_}
+use native.Mathlib.Omega.{arith}
+use Rattle.lowering.specs.Sorted.{sortedRows}
+use Rattle.lowering.proofs.Words.{sorted-more}
 use Rattle.lowering.proofs.note_sorts.Statement.{statement}
 use Rattle.lowering.proofs.note_sorts.Tie as tie
-use Rattle.lowering.proofs.note_sorts.Reads as reads
-use Rattle.lowering.proofs.note_sorts.Lts as lts
-use Rattle.lowering.proofs.note_sort.Reads as note-sort-reads
 
 abbrev Inv-loop : tie.InvT-loop
 Inv-loop rows nodes sorts₀ i₀ sorts i = (i ≤ nodes) × (sorts ≡ sortedRows rows i sorts₀)
@@ -15,28 +14,22 @@ Inv-loop rows nodes sorts₀ i₀ sorts i = (i ≤ nodes) × (sorts ≡ sortedRo
 abbrev μ-loop : tie.MeasureT-loop
 μ-loop rows nodes sorts₀ i₀ sorts i = nodes - i
 
--- src/lib.rt:284:5
 loop-holds : tie.Need-loop-holds Inv-loop μ-loop
 unfolding sortedRows
 loop-holds c = (omega arith, refl)
 
--- src/lib.rt:285:9
 note-sort-requires : tie.Need-note-sort-requires Inv-loop μ-loop
 note-sort-requires c κs = (omega arith, c .before .before .before .pre .1 (c .before .before .loop .i) (omega arith))
 
--- src/lib.rt:286:9
 add-i : tie.Need-add-i Inv-loop μ-loop
 add-i c = omega arith
 
--- src/lib.rt:284:5
 loop-less : tie.Need-loop-less Inv-loop μ-loop
 loop-less c = omega arith
 
--- src/lib.rt:284:5
 loop-again : tie.Need-loop-again Inv-loop μ-loop
 loop-again c = (omega arith, sorted-more (c .before .before .before .before .args .rows .now) (c .before .before .before .loop .i) (c .before .before .before .before .args .sorts .now) (c .before .before .before .loop .inv .1) (c .note-sort .ensures))
 
--- src/lib.rt:279:1
 returns : tie.Need-returns Inv-loop μ-loop
 returns c = let last : c .before .loop .i ≡ c .before .before .args .nodes = omega arith in rw (← last) (c .before .loop .inv .1)
 

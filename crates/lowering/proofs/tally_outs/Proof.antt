@@ -1,17 +1,15 @@
-use Rattle.lowering.proofs.Uses.{tally-below, one-use}
+-- `lowering::tally_outs` meets its contract. The table after i results holds their uses besides.
+-- Assumes nothing.
+use Prim.Native.Nat.{_-_, _≤_}
+use mathlib.Core.Path.{_≡_, refl}
+use native.Mathlib.Omega.{arith}
+use lib.ListN.{getD}
+use Rattle.graph.specs.Below.{joined}
 use Rattle.lowering.specs.Written.{rowOuts, tallied-more, joined-long}
 use Rattle.lowering.specs.Tallied.{tallied}
-use Rattle.graph.specs.Below.{joined}
-use lib.ListN.{getD}
-use borrow.Author.Needs.{needs}
-use native.Mathlib.Omega.{arith}
-use mathlib.Core.Path.{_≡_, refl}
-use Prim.Native.Nat.{ℕ, _+_, _-_, _*_, _<_, _≤_}
+use Rattle.lowering.proofs.Uses.{tally-below, one-use}
 use Rattle.lowering.proofs.tally_outs.Statement.{statement}
 use Rattle.lowering.proofs.tally_outs.Tie as tie
-use Rattle.lowering.proofs.tally_outs.Reads as reads
-use Rattle.lowering.proofs.tally_outs.Lts as lts
-use Rattle.lowering.proofs.tally.Reads as tally-reads
 
 abbrev Inv-loop : tie.InvT-loop
 Inv-loop outs results seen₀ i₀ seen i = (i ≤ results) × (seen ≡ tallied seen₀ (joined (rowOuts outs) i))
@@ -19,36 +17,28 @@ Inv-loop outs results seen₀ i₀ seen i = (i ≤ results) × (seen ≡ tallied
 abbrev μ-loop : tie.MeasureT-loop
 μ-loop outs results seen₀ i₀ seen i = results - i
 
--- src/lib.rt:55:5
 loop-holds : tie.Need-loop-holds Inv-loop μ-loop
 unfolding joined tallied
 loop-holds c = (omega arith, refl)
 
--- src/lib.rt:56:21
 mul-tally : tie.Need-mul-tally Inv-loop μ-loop
 mul-tally c = omega arith
 
--- src/lib.rt:56:21
 element-copy-out-tally : tie.Need-element-copy-out-tally Inv-loop μ-loop
 element-copy-out-tally c = omega arith
 
--- src/lib.rt:56:9
 tally-requires : tie.Need-tally-requires Inv-loop μ-loop
 tally-requires c κs = let a = c .before .before .before .before .args in let l = c .before .before .before .loop in let n = joined-long (rowOuts (a .outs .now)) 1 (λ j. refl) (l .i) in (c .before .before .before .before .pre .1 (l .i) (omega arith), tally-below {n = 40000} (a .seen .now) (joined (rowOuts (a .outs .now)) (l .i)) (c .before .before .before .before .pre .2) (l .inv .1) (omega arith))
 
--- src/lib.rt:57:9
 add-i : tie.Need-add-i Inv-loop μ-loop
 add-i c = omega arith
 
--- src/lib.rt:55:5
 loop-less : tie.Need-loop-less Inv-loop μ-loop
 loop-less c = omega arith
 
--- src/lib.rt:55:5
 loop-again : tie.Need-loop-again Inv-loop μ-loop
 loop-again c = let a = c .before .before .before .before .before .args in let l = c .before .before .before .before .loop in (omega arith, tallied-more (rowOuts (a .outs .now)) (l .i) (a .seen .now) (l .inv .1) (one-use (l .seen) (getD (a .outs .now) (l .i) 0) (c .tally .ensures)))
 
--- src/lib.rt:50:1
 returns : tie.Need-returns Inv-loop μ-loop
 returns c = let last : c .before .loop .i ≡ c .before .before .args .results = omega arith in rw (← last) (c .before .loop .inv .1)
 

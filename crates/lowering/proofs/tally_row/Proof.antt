@@ -1,67 +1,52 @@
-use lib.ListN.{getD}
+-- `lowering::tally_row` meets its contract. Three uses, in input order.
+-- Assumes nothing.
 use Prim.Native.Nat.{_+_, _*_}
-use Rattle.lowering.proofs.Uses.{looser, one-more-below, three-uses}
 use native.Mathlib.Omega.{arith}
 use borrow.Author.Needs.{needs}
+use lib.ListN.{getD}
+use Rattle.lowering.proofs.Uses.{looser, one-more-below, three-uses}
 use Rattle.lowering.proofs.tally_row.Statement.{statement}
 use Rattle.lowering.proofs.tally_row.Tie as tie
-use Rattle.lowering.proofs.tally_row.Reads as reads
-use Rattle.lowering.proofs.tally_row.Lts as lts
-use Rattle.lowering.proofs.tally.Reads as tally-reads
 
--- src/lib.rt:33:13
 mul-p : tie.Need-mul-p
 mul-p c = search needs
 
--- src/lib.rt:34:22
 add-tally : tie.Need-add-tally
 add-tally c = search needs
 
--- src/lib.rt:34:17
 mul-tally : tie.Need-mul-tally
 mul-tally c = search needs
 
--- src/lib.rt:34:17
 element-copy-out-tally : tie.Need-element-copy-out-tally
 element-copy-out-tally c = search needs
 
--- src/lib.rt:34:5
 tally-requires : tie.Need-tally-requires
 tally-requires c κs = (c .before .before .pre .1 .in0, looser (c .before .before .pre .2) (omega arith))
 
--- src/lib.rt:35:22
 add-tally-2 : tie.Need-add-tally-2
 add-tally-2 c = search needs
 
--- src/lib.rt:35:17
 mul-tally-2 : tie.Need-mul-tally-2
 mul-tally-2 c = search needs
 
--- src/lib.rt:35:17
 element-copy-out-tally-2 : tie.Need-element-copy-out-tally-2
 element-copy-out-tally-2 c = search needs
 
--- src/lib.rt:35:5
 tally-requires-2 : tie.Need-tally-requires-2
 tally-requires-2 c κs = let a = c .before .before .before .before .before .args in (c .before .before .before .before .before .pre .1 .in1, one-more-below {n = 40000} (getD (a .rows .now) (7 * a .i + 3) 0) (c .before .before .before .before .before .pre .2) (omega arith) (c .before .before .tally .ensures))
 
--- src/lib.rt:36:22
 add-tally-3 : tie.Need-add-tally-3
 add-tally-3 c = search needs
 
--- src/lib.rt:36:17
 mul-tally-3 : tie.Need-mul-tally-3
 mul-tally-3 c = search needs
 
--- src/lib.rt:36:17
 element-copy-out-tally-3 : tie.Need-element-copy-out-tally-3
 element-copy-out-tally-3 c = search needs
 
--- src/lib.rt:36:5
 tally-requires-3 : tie.Need-tally-requires-3
 tally-requires-3 c κs = let a = c .before .before .before .before .before .before .before .before .args in let r = a .rows .now in let i = a .i in (c .before .before .before .before .before .before .before .before .pre .1 .in2, one-more-below {n = 40000} (getD r (7 * i + 4) 0) (one-more-below {n = 30001} (getD r (7 * i + 3) 0) (c .before .before .before .before .before .before .before .before .pre .2) (omega arith) (c .before .before .before .before .before .tally .ensures)) (omega arith) (c .before .before .tally2 .ensures))
 
--- src/lib.rt:29:1
 returns : tie.Need-returns
 returns c = let a = c .before .before .before .before .before .before .before .before .before .args in let r = a .rows .now in let i = a .i in three-uses _ (getD r (7 * i + 3) 0) (getD r (7 * i + 4) 0) (getD r (7 * i + 5) 0) (c .before .before .before .before .before .before .tally .ensures) (c .before .before .before .tally2 .ensures) (c .tally3 .ensures)
 

@@ -1,49 +1,39 @@
-use Rattle.lowering.specs.Written.{three-words}
-use lib.ListN.{length-set}
+-- `lowering::three` meets its contract. Three stores are one run of words.
+-- Assumes nothing.
 use native.Mathlib.Omega.{arith}
 use borrow.Author.Needs.{needs}
+use lib.ListN.{length-set}
+use Rattle.lowering.specs.Written.{three-words}
 use Rattle.lowering.proofs.three.Statement.{statement}
 use Rattle.lowering.proofs.three.Tie as tie
-use Rattle.lowering.proofs.three.Reads as reads
-use Rattle.lowering.proofs.three.Lts as lts
 
--- src/lib.rt:137:5
 mul-graph : tie.Need-mul-graph
 mul-graph c = search needs
 
--- src/lib.rt:137:5
 slice-write-graph : tie.Need-slice-write-graph
 slice-write-graph c = search needs
 
--- src/lib.rt:138:11
 add-graph : tie.Need-add-graph
 add-graph c = search needs
 
--- src/lib.rt:138:5
 mul-graph-2 : tie.Need-mul-graph-2
 mul-graph-2 c = search needs
 
--- src/lib.rt:138:5
 slice-write-graph-2 : tie.Need-slice-write-graph-2
 slice-write-graph-2 c = simp length-set (omega arith)
 
--- src/lib.rt:139:11
 add-graph-2 : tie.Need-add-graph-2
 add-graph-2 c = search needs
 
--- src/lib.rt:139:5
 mul-graph-3 : tie.Need-mul-graph-3
 mul-graph-3 c = search needs
 
--- src/lib.rt:139:5
 slice-write-graph-3 : tie.Need-slice-write-graph-3
 slice-write-graph-3 c = simp length-set (omega arith)
 
--- src/lib.rt:133:1
 same-length : tie.Need-same-length
 same-length c = search needs
 
--- src/lib.rt:133:1
 returns : tie.Need-returns
 returns c = let a = c .args in three-words (a .graph .now) (a .at) (a .a) (a .b) (a .c)
 

@@ -1,20 +1,16 @@
-use Rattle.lowering.proofs.Words.{forks-at}
-use Rattle.lowering.specs.Written.{written-more}
-use Rattle.lowering.specs.Forked.{nodesBy, forkWordsBy, fork-words-all}
-use Rattle.graph.specs.Below.{joined, total, total-more, total-within}
-use lib.Seq.{sets}
-use lib.ListN.{length, getD}
-use borrow.Author.Needs.{needs}
+-- `lowering::write_forks` meets its contract. After w wires their forks' words stand in a run, seven for each node they add.
+-- Assumes nothing.
+use Prim.Native.Nat.{_+_, _-_, _*_, _≤_}
+use mathlib.Core.Path.{_≡_, refl, ap, _∙_}
 use native.Mathlib.Omega.{arith}
-use mathlib.Core.Path.{_≡_, refl, sym, ap, _∙_}
-use Prim.Native.Nat.{ℕ, _+_, _-_, _*_, _<_, _≤_}
+use borrow.Author.Needs.{needs}
+use lib.Seq.{sets}
+use lib.ListN.{length}
+use Rattle.graph.specs.Below.{joined, total, total-more, total-within}
+use Rattle.lowering.specs.Forked.{nodesBy, forkWordsBy}
+use Rattle.lowering.proofs.Words.{forks-at}
 use Rattle.lowering.proofs.write_forks.Statement.{statement}
 use Rattle.lowering.proofs.write_forks.Tie as tie
-use Rattle.lowering.proofs.write_forks.Reads as reads
-use Rattle.lowering.proofs.write_forks.Lts as lts
-use Rattle.graph.proofs.wide.Reads as wide-reads
-use Rattle.lowering.proofs.added_nodes.Reads as added-nodes-reads
-use Rattle.lowering.proofs.write_forks_of.Reads as write-forks-of-reads
 
 abbrev Inv-loop : tie.InvT-loop
 Inv-loop sorts uses free wires graph₀ at p₀ w₀ graph p w = (w ≤ wires) × (length graph ≡ length graph₀) × (p ≡ at + 7 * total (nodesBy uses) w) × (graph ≡ sets graph₀ at (joined (forkWordsBy sorts uses free) w))
@@ -22,67 +18,52 @@ Inv-loop sorts uses free wires graph₀ at p₀ w₀ graph p w = (w ≤ wires) �
 abbrev μ-loop : tie.MeasureT-loop
 μ-loop sorts uses free wires graph₀ at p₀ w₀ graph p w = wires - w
 
--- src/lib.rt:227:5
 loop-holds : tie.Need-loop-holds Inv-loop μ-loop
 unfolding joined total
 loop-holds c = (omega arith, refl, omega arith, refl)
 
--- src/lib.rt:228:13
 wide-requires : tie.Need-wide-requires Inv-loop μ-loop
 wide-requires c κs = search needs
 
--- src/lib.rt:229:24
 mul-write-forks-of : tie.Need-mul-write-forks-of Inv-loop μ-loop
 mul-write-forks-of c = let e = c .wide .ensures .0 in omega arith
 
--- src/lib.rt:229:24
 element-copy-out-write-forks-of : tie.Need-element-copy-out-write-forks-of Inv-loop μ-loop
 element-copy-out-write-forks-of c = let e = c .wide .ensures .0 in omega arith
 
--- src/lib.rt:229:37
 mul-write-forks-of-2 : tie.Need-mul-write-forks-of-2 Inv-loop μ-loop
 mul-write-forks-of-2 c = let e = c .before .wide .ensures .0 in omega arith
 
--- src/lib.rt:229:37
 element-copy-out-write-forks-of-2 : tie.Need-element-copy-out-write-forks-of-2 Inv-loop μ-loop
 element-copy-out-write-forks-of-2 c = let e = c .before .wide .ensures .0 in omega arith
 
--- src/lib.rt:229:46
 mul-write-forks-of-3 : tie.Need-mul-write-forks-of-3 Inv-loop μ-loop
 mul-write-forks-of-3 c = let e = c .before .before .wide .ensures .0 in omega arith
 
--- src/lib.rt:229:46
 element-copy-out-write-forks-of-3 : tie.Need-element-copy-out-write-forks-of-3 Inv-loop μ-loop
 element-copy-out-write-forks-of-3 c = let e = c .before .before .wide .ensures .0 in omega arith
 
--- src/lib.rt:229:9
 write-forks-of-requires : tie.Need-write-forks-of-requires Inv-loop μ-loop
 write-forks-of-requires c κs = let e = c .before .before .before .before .wide .ensures .0 in let i = c .before .before .before .before .wide .result in let l = c .before .before .before .before .before .before .loop in let a = c .before .before .before .before .before .before .before .before .args in
     let t = total-within (nodesBy (a .uses .now)) i (a .wires) (omega arith) in
     let z : total (nodesBy (a .uses .now)) i ≡ total (nodesBy (a .uses .now)) (l .w) = ap (total (nodesBy (a .uses .now))) e in
     (c .before .before .before .before .before .before .before .before .pre .1 .low i (omega arith), c .before .before .before .before .before .before .before .before .pre .2 .low i (omega arith), omega arith)
 
--- src/lib.rt:230:45
 mul-added-nodes : tie.Need-mul-added-nodes Inv-loop μ-loop
 mul-added-nodes c = let e = c .before .before .before .before .before .before .before .wide .ensures .0 in omega arith
 
--- src/lib.rt:230:45
 element-copy-out-added-nodes : tie.Need-element-copy-out-added-nodes Inv-loop μ-loop
 element-copy-out-added-nodes c = let e = c .before .before .before .before .before .before .before .wide .ensures .0 in omega arith
 
--- src/lib.rt:230:33
 added-nodes-requires : tie.Need-added-nodes-requires Inv-loop μ-loop
 added-nodes-requires c κs = let e = c .before .before .before .before .before .before .before .before .wide .ensures .0 in c .before .before .before .before .before .before .before .before .before .before .before .before .pre .1 .low (c .before .before .before .before .before .before .before .before .wide .result) (omega arith)
 
--- src/lib.rt:230:21
 wide-requires-2 : tie.Need-wide-requires-2 Inv-loop μ-loop
 wide-requires-2 c κs = search needs
 
--- src/lib.rt:230:17
 mul-p : tie.Need-mul-p Inv-loop μ-loop
 mul-p c = let e = c .wide2 .ensures .0 in let d = c .before .before .before .before .before .before .before .before .before .before .wide .ensures .0 in omega arith
 
--- src/lib.rt:230:13
 add-p : tie.Need-add-p Inv-loop μ-loop
 add-p c = let e = c .wide2 .ensures .0 in let d = c .before .before .before .before .before .before .before .before .before .before .wide .ensures .0 in let i = c .before .before .before .before .before .before .before .before .before .before .wide .result in let l = c .before .before .before .before .before .before .before .before .before .before .before .before .loop in let a = c .before .before .before .before .before .before .before .before .before .before .before .before .before .before .args in
     let t = total-within (nodesBy (a .uses .now)) i (a .wires) (omega arith) in
@@ -91,15 +72,12 @@ add-p c = let e = c .wide2 .ensures .0 in let d = c .before .before .before .bef
     let g = c .before .before .before .before .before .before .before .before .before .before .before .before .before .slice-known .given in
     omega arith
 
--- src/lib.rt:231:9
 add-w : tie.Need-add-w Inv-loop μ-loop
 add-w c = omega arith
 
--- src/lib.rt:227:5
 loop-less : tie.Need-loop-less Inv-loop μ-loop
 loop-less c = omega arith
 
--- src/lib.rt:227:5
 loop-again : tie.Need-loop-again Inv-loop μ-loop
 loop-again c = let e = c .wide2 .ensures .0 in let d = c .before .before .before .before .before .before .before .before .before .before .wide .ensures .0 in let i = c .before .before .before .before .before .before .before .before .before .before .wide .result in let l = c .before .before .before .before .before .before .before .before .before .before .before .before .loop in let a = c .before .before .before .before .before .before .before .before .before .before .before .before .before .before .args in
     let u = a .uses .now in
@@ -108,11 +86,9 @@ loop-again c = let e = c .wide2 .ensures .0 in let d = c .before .before .before
     let z : nodesBy u i ≡ nodesBy u (l .w) = ap (nodesBy u) d in
     (omega arith, c .before .before .before .before .before .write-forks-of .kept .1 .1 .1 .1 .0 ∙ l .inv .1, omega arith, forks-at (a .sorts .now) u (a .free .now) (a .at) (l .w) (a .graph .now) d (l .inv .2) (l .inv .3) (c .before .before .before .before .before .write-forks-of .ensures))
 
--- src/lib.rt:221:1
 same-length : tie.Need-same-length Inv-loop μ-loop
 same-length c = c .before .loop .inv .1
 
--- src/lib.rt:221:1
 returns : tie.Need-returns Inv-loop μ-loop
 returns c = let last : c .before .loop .w ≡ c .before .before .before .args .wires = omega arith in rw (← last) (c .before .loop .inv .3)
 
