@@ -1,5 +1,6 @@
 // The last stage of lowering: uses tallied, forks numbered, the graph written. Its entries are the table's check and lowering.
 ghost use mathlib.Core.Path.{_≡_};
+ghost use mathlib.Core.Bool.{true, false};
 ghost use mathlib.Core.List.{[], _∷_};
 ghost use Prim.Native.Nat.{ℕ, _+_, _-_, _*_, _<_, _≤_};
 ghost use lib.Dec.{eqb};
@@ -7,17 +8,27 @@ ghost use lib.ListN.{length, getD};
 ghost use lib.Seq.{sets};
 ghost use Rattle.word.specs.Words.{flag};
 ghost use Rattle.graph.specs.Below.{joined, total};
+ghost use Rattle.table.specs.Check.{answer};
 ghost use Rattle.lowered.specs.Lower.{startWords, loweredWords};
+ghost use Rattle.lowered.specs.Room.{checkAnswer};
+ghost use Rattle.carrying.specs.Kept.{Passing};
 ghost use Rattle.laid.specs.Counts.{legAt};
 ghost use Rattle.lowering.specs.Tallied.{Place, Below, oneMore, tallied};
 ghost use Rattle.lowering.specs.Forked.{addedWires, addedNodes, nodesBy, Freed, forkWords, forkWordsBy};
 ghost use Rattle.lowering.specs.Sorted.{sortedRow, sortedRows, FirstFits};
 ghost use Rattle.lowering.specs.Written.{rowInputs, rowOuts, Sourced, standOf, rowWordsBy, rowWords, outWords, startBy, Scratch, usesOf};
-ghost use Rattle.lowering.specs.Ready.{Counted, Ready};
+ghost use Rattle.lowering.specs.Ready.{Counted, Ready, Measured};
+ghost use Rattle.lowering.specs.Answers.{LowerAnswer};
 
 const FORK: u32 = 5;
 
 const DRAIN: u32 = 6;
+
+const ROOM: u32 = 10;
+
+const MOST_NODES: u32 = 4096;
+
+const MOST_WIRES: u32 = 8192;
 
 // How often each wire is used. An input that is not there is no use.
 fn tally(seen: &mut [u32; 8192], x: u32)
@@ -357,6 +368,59 @@ struct Sizes {
     room: bool,
 }
 
+fn no_room() -> Sizes
+    ensures { λ r. ⌜ r .room ≡ false ⌝ }
+{
+    Sizes {
+        plain: 0,
+        sources: 0,
+        nodes: 0,
+        wires: 0,
+        starts: 0,
+        results: 0,
+        room: false,
+    }
+}
+
+// Lays a table's nodes down and counts everything, before a word is written. A table over a limit before forks is over it with them.
+fn measure(
+    table: &[u32],
+    n: u32,
+    rows: &mut [u32; 28672],
+    outs: &mut [u32; 512],
+    uses: &mut [u32; 8192],
+    free: &mut [u32; 8192],
+) -> Sizes
+    requires { ⌜ Passing (now table) n × (length (now rows) ≡ 28672) × (length (now outs) ≡ 512) × Below 0 (now uses) × Below 0 (now free) ⌝ }
+    ensures { λ r. ⌜ Measured (now (table .entry)) (now (rows .exit)) (now (outs .exit)) (now (uses .exit)) (now (free .exit)) (r .plain) (r .sources) (r .nodes) (r .wires) (r .starts) (r .results) (r .room) ⌝ }
+{
+    let laid = laying::lay(table, n, rows, outs);
+    if MOST_NODES < laid.nodes {
+        return no_room();
+    }
+    if MOST_WIRES < laid.wires {
+        return no_room();
+    }
+    let plain = graph::wide(laid.nodes);
+    let results = graph::wide(laid.results);
+    let added = count_uses(rows, plain, outs, results, laid.wires, uses, free);
+    if MOST_NODES < laid.nodes + added.nodes {
+        return no_room();
+    }
+    if MOST_WIRES < laid.wires + added.wires {
+        return no_room();
+    }
+    Sizes {
+        plain: laid.nodes,
+        sources: laid.wires,
+        nodes: laid.nodes + added.nodes,
+        wires: laid.wires + added.wires,
+        starts: laid.starts,
+        results: laid.results,
+        room: true,
+    }
+}
+
 fn write_graph(
     table: &[u32],
     rows: &[u32; 28672],
@@ -397,4 +461,78 @@ fn write_graph(
         graph,
         place + results + 7 * plain,
     );
+}
+
+// The check of a table: refusals 1 to 9, then 10 by the counts alone.
+pub fn check_table(table: &[u32]) -> table::Checked
+    ensures answer { λ r. ⌜ answer (r .number) (r .row) ≡ checkAnswer (now (table .entry)) ⌝ }
+{
+    let checked = table::check_rows(table);
+    if checked.number != 0 {
+        return checked;
+    }
+    let n = (table.len() / 6) as u32;
+    let mut rows = [0u32; 28672];
+    let mut outs = [0u32; 512];
+    let mut uses = [0u32; 8192];
+    let mut free = [0u32; 8192];
+    let sizes = measure(table, n, &mut rows, &mut outs, &mut uses, &mut free);
+    if sizes.room {
+        return table::Checked { number: 0, row: 0 };
+    }
+    table::Checked {
+        number: ROOM,
+        row: n,
+    }
+}
+
+// What lower answers: 0, a row of 0 and how many words were written; or a refusal's number and row.
+pub struct Lowered {
+    pub number: u32,
+    pub row: u32,
+    pub length: usize,
+}
+
+// Lowers a table into the lent words. The room is known before the first word is written.
+pub fn lower(table: &[u32], graph: &mut [u32]) -> Lowered
+    ensures answer { λ r. ⌜ LowerAnswer (now (table .entry)) (now (graph .entry)) (r .number) (r .row) (r .length) (now (graph .exit)) ⌝ }
+{
+    let checked = table::check_rows(table);
+    if checked.number != 0 {
+        return Lowered {
+            number: checked.number,
+            row: checked.row,
+            length: 0,
+        };
+    }
+    let n = (table.len() / 6) as u32;
+    let mut rows = [0u32; 28672];
+    let mut outs = [0u32; 512];
+    let mut uses = [0u32; 8192];
+    let mut free = [0u32; 8192];
+    let sizes = measure(table, n, &mut rows, &mut outs, &mut uses, &mut free);
+    if sizes.room {} else {
+        return Lowered {
+            number: ROOM,
+            row: n,
+            length: 0,
+        };
+    }
+    let length = 4
+        + 2 * graph::wide(sizes.starts)
+        + graph::wide(sizes.results)
+        + 7 * graph::wide(sizes.nodes);
+    if graph.len() < length {
+        return Lowered {
+            number: ROOM,
+            row: n,
+            length: 0,
+        };
+    }
+    write_graph(table, &rows, &outs, &uses, &free, sizes, graph);
+    Lowered {
+        number: 0,
+        row: 0,
+        length,
+    }
 }
