@@ -89,11 +89,12 @@ pub fn operand_at(table: &[u32], r: u32, j: u32) -> u32
     table[(6 * r + k) as usize]
 }
 
-pub fn body_at(bodies: &[u32; 512], r: u32) -> u32
+// What is noted of row r.
+pub fn noted_at(notes: &[u32; 512], r: u32) -> u32
     requires { ⌜ r < 512 ⌝ }
-    ensures { λ b. ⌜ b ≡ getD (now (bodies .entry)) r 0 ⌝ }
+    ensures { λ w. ⌜ w ≡ getD (now (notes .entry)) r 0 ⌝ }
 {
-    bodies[r as usize]
+    notes[r as usize]
 }
 
 // The body before the row behind r: a FOR opens its own, an END leads back to the one around, every other row stays.
@@ -106,7 +107,7 @@ fn body_after(table: &[u32], n: u32, bodies: &[u32; 512], r: u32, b: u32) -> u32
         return r;
     }
     if kind == END {
-        return body_at(bodies, b);
+        return noted_at(bodies, b);
     }
     b
 }
@@ -140,9 +141,9 @@ pub fn home_of(table: &[u32], n: u32, bodies: &[u32; 512], v: u32) -> u32
         return v;
     }
     if kind == NEXT {
-        return body_at(bodies, body_at(bodies, v));
+        return noted_at(bodies, noted_at(bodies, v));
     }
-    body_at(bodies, v)
+    noted_at(bodies, v)
 }
 
 // The body in which row r's operands are read.
@@ -152,9 +153,9 @@ pub fn reads_of(table: &[u32], n: u32, bodies: &[u32; 512], r: u32) -> u32
 {
     let kind = kind_at(table, r);
     if kind == ARG {
-        return body_at(bodies, body_at(bodies, r));
+        return noted_at(bodies, noted_at(bodies, r));
     }
-    body_at(bodies, r)
+    noted_at(bodies, r)
 }
 
 // The number of row v's wire at home, from the first output of each row.

@@ -123,14 +123,14 @@ fn enter(
     requires { ⌜ Passing (now table) n × Takes (now table) v b × Room (now table) (now nodes) (now wires) × Entering (now table) v (now counts) (now lasts) × (length (now rows) ≡ 28672) ⌝ }
     ensures { λ w. ⌜ Entered (now (table .entry)) v b (now (nodes .entry)) (now (wires .entry)) outer (now (lasts .entry)) (now (rows .entry)) (now (counts .exit)) (now (lasts .exit)) (now (rows .exit)) w ⌝ }
 {
-    let w = carrying::body_at(wires, b);
+    let w = carrying::noted_at(wires, b);
     let place = counts[b as usize];
     if lasts[b as usize] == v + 1 {
         return w + 4 + 3 * place;
     }
     lay_copy(
         rows,
-        carrying::body_at(nodes, b),
+        carrying::noted_at(nodes, b),
         w,
         place,
         carrying::sort_at(table, v),
@@ -162,7 +162,7 @@ fn resolve(
     if b == h {
         return own;
     }
-    let around = carrying::body_at(bodies, b);
+    let around = carrying::noted_at(bodies, b);
     let outer = resolve(
         table,
         n,
@@ -237,7 +237,7 @@ fn resolve_uses(
     requires { ⌜ Passing (now table) n × Bodies (now table) n (now bodies) × Pairs (now table) (now pairs) × Uses (now table) (3 * n) (now heads) (now links) × Room (now table) (now nodes) (now wires) × (v < n) × Counting (now table) v (now counts) (now lasts) × (length (now rows) ≡ 28672) × (length (now at) ≡ 1536) ⌝ }
     ensures { λ u. ⌜ UsesResolved (now (table .entry)) v (now (nodes .entry)) (now (wires .entry)) (now (rows .entry)) (now (at .entry)) (now (counts .exit)) (now (lasts .exit)) (now (rows .exit)) (now (at .exit)) ⌝ }
 {
-    let mut c = carrying::body_at(heads, v);
+    let mut c = carrying::noted_at(heads, v);
     while c != 0 {
         let p = c - 1;
         resolve_use(
@@ -320,8 +320,8 @@ fn lay_op(
     requires { ⌜ Known (now table) n (now bodies) (now pairs) (now nodes) (now wires) (now at) × (r < n) × (kindOf (now table) r ≡ 2) × (length (now rows) ≡ 28672) ⌝ }
     ensures { λ u. ⌜ RowLaid (now (table .entry)) r (now (rows .entry)) (now (rows .exit)) ⌝ }
 {
-    let i = carrying::body_at(nodes, r);
-    let w = carrying::body_at(wires, r);
+    let i = carrying::noted_at(nodes, r);
+    let w = carrying::noted_at(wires, r);
     let code = carrying::word_at(table, r, 1);
     put_row(
         rows,
@@ -351,8 +351,8 @@ fn lay_pick(
     requires { ⌜ Known (now table) n (now bodies) (now pairs) (now nodes) (now wires) (now at) × (r < n) × (kindOf (now table) r ≡ 3) × (length (now rows) ≡ 28672) ⌝ }
     ensures { λ u. ⌜ RowLaid (now (table .entry)) r (now (rows .entry)) (now (rows .exit)) ⌝ }
 {
-    let i = carrying::body_at(nodes, r);
-    let w = carrying::body_at(wires, r);
+    let i = carrying::noted_at(nodes, r);
+    let w = carrying::noted_at(wires, r);
     let a = wire_of(at, 3 * r);
     let b = wire_of(at, 3 * r + 1);
     let c = wire_of(at, 3 * r + 2);
@@ -374,8 +374,8 @@ fn lay_loop(
     requires { ⌜ Known (now table) n (now bodies) (now pairs) (now nodes) (now wires) (now at) × (r < n) × (kindOf (now table) r ≡ 4) × (length (now rows) ≡ 28672) ⌝ }
     ensures { λ u. ⌜ RowLaid (now (table .entry)) r (now (rows .entry)) (now (rows .exit)) ⌝ }
 {
-    let i = carrying::body_at(nodes, r);
-    let w = carrying::body_at(wires, r);
+    let i = carrying::noted_at(nodes, r);
+    let w = carrying::noted_at(wires, r);
     let update = carrying::word_at(table, r, 4);
     let condition = carrying::word_at(table, r, 5);
     let a = wire_of(at, 3 * r);
@@ -401,10 +401,10 @@ fn lay_arg(
     requires { ⌜ Known (now table) n (now bodies) (now pairs) (now nodes) (now wires) (now at) × (r < n) × (kindOf (now table) r ≡ 5) × (length (now rows) ≡ 28672) ⌝ }
     ensures { λ u. ⌜ RowLaid (now (table .entry)) r (now (rows .entry)) (now (rows .exit)) ⌝ }
 {
-    let i = carrying::body_at(nodes, r);
-    let w = carrying::body_at(wires, r);
-    let raw = carrying::body_at(wires, carrying::body_at(bodies, r)) + 1;
-    let next = carrying::body_at(pairs, r);
+    let i = carrying::noted_at(nodes, r);
+    let w = carrying::noted_at(wires, r);
+    let raw = carrying::noted_at(wires, carrying::noted_at(bodies, r)) + 1;
+    let next = carrying::noted_at(pairs, r);
     put_row(
         rows,
         i,

@@ -8,8 +8,8 @@ use borrow.Author.Needs.{needs}
 use Rattle.laying.proofs.enter.Statement.{statement}
 use Rattle.laying.proofs.enter.Tie as tie
 
-body-at-requires : tie.Need-body-at-requires
-body-at-requires c κs = search needs
+noted-at-requires : tie.Need-noted-at-requires
+noted-at-requires c κs = search needs
 
 mul-place : tie.Need-mul-place
 mul-place c = search needs
@@ -27,26 +27,26 @@ add-if1 : tie.Need-add-if1
 add-if1 c = search needs
 
 add-result : tie.Need-add-result
-add-result c = let P = c .before .before .before .before .before .pre in omega (arith, P .2 .wire (c .before .before .before .before .before .args .b), c .before .before .before .body-at .ensures)
+add-result c = let P = c .before .before .before .before .before .pre in omega (arith, P .2 .wire (c .before .before .before .before .before .args .b), c .before .before .before .noted-at .ensures)
 
 mul-result : tie.Need-mul-result
 mul-result c = let P = c .before .before .before .before .before .pre in omega (arith, place-small _ _ _ (P .2) _ _ (P .1) _ _ _ (P .3) refl)
 
 add-result-2 : tie.Need-add-result-2
-add-result-2 c = let P = c .before .before .before .before .before .pre in omega (arith, P .2 .wire (c .before .before .before .before .before .args .b), c .before .before .before .body-at .ensures, place-small _ _ _ (P .2) _ _ (P .1) _ _ _ (P .3) refl)
+add-result-2 c = let P = c .before .before .before .before .before .pre in omega (arith, P .2 .wire (c .before .before .before .before .before .args .b), c .before .before .before .noted-at .ensures, place-small _ _ _ (P .2) _ _ (P .1) _ _ _ (P .3) refl)
 
 returns : tie.Need-returns
-returns c = let P = c .before .before .before .before .before .pre in entered-there _ _ _ (P .2) _ _ (P .1) _ _ _ _ _ _ (P .3) (P .4) (c .before .before .before .body-at .ensures) refl (c .if1 .taken ∙ add-one _)
+returns c = let P = c .before .before .before .before .before .pre in entered-there _ _ _ (P .2) _ _ (P .1) _ _ _ _ _ _ (P .3) (P .4) (c .before .before .before .noted-at .ensures) refl (c .if1 .taken ∙ add-one _)
 
-body-at-requires-2 : tie.Need-body-at-requires-2
-body-at-requires-2 c κs = search needs
+noted-at-requires-2 : tie.Need-noted-at-requires-2
+noted-at-requires-2 c κs = search needs
 
 sort-at-requires : tie.Need-sort-at-requires
 sort-at-requires c κs = search needs
 
 lay-copy-requires : tie.Need-lay-copy-requires
 lay-copy-requires c κs = let P = c .before .before .before .before .before .before .before .before .pre in
-    (row-room _ _ _ (P .2) _ _ (P .1) _ _ _ _ (P .3) (λ z. c .before .before .before .if1 .left (z ∙ sym (add-one _))) refl (c .before .body-at2 .ensures), omega (arith, P .2 .wire (c .before .before .before .before .before .before .before .before .args .b), c .before .before .before .before .before .before .body-at .ensures))
+    (row-room _ _ _ (P .2) _ _ (P .1) _ _ _ _ (P .3) (λ z. c .before .before .before .if1 .left (z ∙ sym (add-one _))) refl (c .before .noted-at2 .ensures), omega (arith, P .2 .wire (c .before .before .before .before .before .before .before .before .args .b), c .before .before .before .before .before .before .noted-at .ensures))
 
 add-counts : tie.Need-add-counts
 add-counts c = let P = c .before .before .before .before .before .before .before .before .before .pre in omega (arith, place-small _ _ _ (P .2) _ _ (P .1) _ _ _ (P .3) refl)
@@ -67,23 +67,23 @@ element-write-lasts : tie.Need-element-write-lasts
 element-write-lasts c = search needs
 
 add-result-3 : tie.Need-add-result-3
-add-result-3 c = let P = c .before .before .before .before .before .before .before .before .before .pre in omega (arith, P .2 .wire (c .before .before .before .before .before .before .before .before .before .args .b), c .before .before .before .before .before .before .before .body-at .ensures)
+add-result-3 c = let P = c .before .before .before .before .before .before .before .before .before .pre in omega (arith, P .2 .wire (c .before .before .before .before .before .before .before .before .before .args .b), c .before .before .before .before .before .before .before .noted-at .ensures)
 
 mul-result-2 : tie.Need-mul-result-2
 mul-result-2 c = let P = c .before .before .before .before .before .before .before .before .before .pre in omega (arith, place-small _ _ _ (P .2) _ _ (P .1) _ _ _ (P .3) refl)
 
 add-result-4 : tie.Need-add-result-4
-add-result-4 c = let P = c .before .before .before .before .before .before .before .before .before .pre in omega (arith, P .2 .wire (c .before .before .before .before .before .before .before .before .before .args .b), c .before .before .before .before .before .before .before .body-at .ensures, place-small _ _ _ (P .2) _ _ (P .1) _ _ _ (P .3) refl)
+add-result-4 c = let P = c .before .before .before .before .before .before .before .before .before .pre in omega (arith, P .2 .wire (c .before .before .before .before .before .before .before .before .before .args .b), c .before .before .before .before .before .before .before .noted-at .ensures, place-small _ _ _ (P .2) _ _ (P .1) _ _ _ (P .3) refl)
 
 returns-2 : tie.Need-returns-2
 returns-2 c = let P = c .before .before .before .before .before .before .before .before .before .pre in
-    entered-new _ _ _ (P .2) _ _ (P .1) (right-table-has-structure _ (P .0 .right)) _ _ _ _ _ _ _ _ _ (P .3) (P .4) (c .before .before .body-at2 .ensures) (c .before .before .before .before .before .before .before .body-at .ensures) refl (λ z. c .before .before .before .before .if1 .left (z ∙ sym (add-one _))) (c .before .sort-at .ensures) (c .lay-copy .ensures)
+    entered-new _ _ _ (P .2) _ _ (P .1) (right-table-has-structure _ (P .0 .right)) _ _ _ _ _ _ _ _ _ (P .3) (P .4) (c .before .before .noted-at2 .ensures) (c .before .before .before .before .before .before .before .noted-at .ensures) refl (λ z. c .before .before .before .before .if1 .left (z ∙ sym (add-one _))) (c .before .sort-at .ensures) (c .lay-copy .ensures)
 
 pub enter-spec : {M : Type 1} → statement M
 enter-spec =
     tie.close
     (tie.spec
-    body-at-requires
+    noted-at-requires
     mul-place
     element-copy-out-place
     mul-if1
@@ -93,7 +93,7 @@ enter-spec =
     mul-result
     add-result-2
     returns
-    body-at-requires-2
+    noted-at-requires-2
     sort-at-requires
     lay-copy-requires
     add-counts

@@ -5,11 +5,11 @@ use borrow.Author.Needs.{needs}
 use Rattle.laying.proofs.lay_pick.Statement.{statement}
 use Rattle.laying.proofs.lay_pick.Tie as tie
 
-body-at-requires : tie.Need-body-at-requires
-body-at-requires c κs = search needs
+noted-at-requires : tie.Need-noted-at-requires
+noted-at-requires c κs = search needs
 
-body-at-requires-2 : tie.Need-body-at-requires-2
-body-at-requires-2 c κs = search needs
+noted-at-requires-2 : tie.Need-noted-at-requires-2
+noted-at-requires-2 c κs = search needs
 
 mul-wire-of : tie.Need-mul-wire-of
 mul-wire-of c = search needs
@@ -36,17 +36,17 @@ wire-of-requires-3 : tie.Need-wire-of-requires-3
 wire-of-requires-3 c κs = search needs
 
 put-row-requires : tie.Need-put-row-requires
-put-row-requires c κs = let P = c .before .before .before .before .before .before .before .pre in op-fits _ _ _ _ _ _ _ (P .0) _ _ _ (P .1) (c .before .before .before .before .before .body-at .ensures) (c .before .before .before .before .body-at2 .ensures) (inr (P .2))
+put-row-requires c κs = let P = c .before .before .before .before .before .before .before .pre in op-fits _ _ _ _ _ _ _ (P .0) _ _ _ (P .1) (c .before .before .before .before .before .noted-at .ensures) (c .before .before .before .before .noted-at2 .ensures) (inr (P .2))
 
 returns : tie.Need-returns
-returns c = let P = c .before .before .before .before .before .before .before .before .pre in pick-laid _ _ _ _ _ _ _ (P .0) _ _ _ (P .1) (c .before .before .before .before .before .before .body-at .ensures) (c .before .before .before .before .before .body-at2 .ensures) _ _ _ _ _ (P .2) (P .3) (c .before .before .before .before .wire-of .ensures) (c .before .before .before .wire-of2 .ensures) (c .before .before .wire-of3 .ensures) (c .put-row .ensures)
+returns c = let P = c .before .before .before .before .before .before .before .before .pre in pick-laid _ _ _ _ _ _ _ (P .0) _ _ _ (P .1) (c .before .before .before .before .before .before .noted-at .ensures) (c .before .before .before .before .before .noted-at2 .ensures) _ _ _ _ _ (P .2) (P .3) (c .before .before .before .before .wire-of .ensures) (c .before .before .before .wire-of2 .ensures) (c .before .before .wire-of3 .ensures) (c .put-row .ensures)
 
 pub lay-pick-spec : {M : Type 1} → statement M
 lay-pick-spec =
     tie.close
     (tie.spec
-    body-at-requires
-    body-at-requires-2
+    noted-at-requires
+    noted-at-requires-2
     mul-wire-of
     wire-of-requires
     mul-wire-of-2

@@ -11,11 +11,11 @@ Inv-loop table n bodies pairs heads links nodes wires counts₀ lasts₀ rows₀
 abbrev μ-loop : tie.MeasureT-loop
 μ-loop table n bodies pairs heads links nodes wires counts₀ lasts₀ rows₀ at₀ v c₀ counts lasts rows at c = c
 
-body-at-requires : tie.Need-body-at-requires Inv-loop μ-loop
-body-at-requires c κs = let P = c .before .pre in omega (arith, P .5, P .0 .few)
+noted-at-requires : tie.Need-noted-at-requires Inv-loop μ-loop
+noted-at-requires c κs = let P = c .before .pre in omega (arith, P .5, P .0 .few)
 
 loop-holds : tie.Need-loop-holds Inv-loop μ-loop
-loop-holds c = let P = c .before .before .pre in first-use _ _ (P .0) _ _ _ _ (P .3) _ (P .5) _ _ _ _ _ (c .body-at .ensures) (P .6) (P .7) (P .8)
+loop-holds c = let P = c .before .before .pre in first-use _ _ (P .0) _ _ _ _ (P .3) _ (P .5) _ _ _ _ _ (c .noted-at .ensures) (P .6) (P .7) (P .8)
 
 sub-p : tie.Need-sub-p Inv-loop μ-loop
 sub-p c = omega (arith, c .loop-test .taken)
@@ -49,7 +49,7 @@ resolve-uses-spec =
     (tie.spec
     Inv-loop
     μ-loop
-    body-at-requires
+    noted-at-requires
     loop-holds
     sub-p
     resolve-use-requires
