@@ -90,7 +90,7 @@ module _ (tb : Table) (g : Good tb) (L : ℕ) (f : IsFor tb L) where
   InletOf (arg0 a) = (tb .loop a ≡ L) × (isArg (tb .row a) ≡ true)
   InletOf (arg1 a) = (tb .loop a ≡ L) × (isArg (tb .row a) ≡ true)
 
-  node-in : (x : Inlet) → InletOf x → inLoop tb L (inletNode L x) ≡ true
+  pub node-in : (x : Inlet) → InletOf x → inLoop tb L (inletNode L x) ≡ true
   node-in gate0 m = eqb-yes L
   node-in gate1 m = eqb-yes L
   node-in (split0 v) m = two-in tb L v m
@@ -273,31 +273,31 @@ module _ (tb : Table) (g : Good tb) (L : ℕ) (f : IsFor tb L) where
     at3 x m = inlet-token e3 S2 x m (flow e2 x (flow e1 x none)) (at2 x m)
 
     -- inner uses are empty again
-    pub inner3 : ((x : Inlet) → flow e3 x (flow e2 x (flow e1 x none)) ≡ none) → (p : Use) (w : Wire) → slot tb p ≡ inner w → S3 .tok p ≡ none
+    pub inner3 : ((x : Inlet) → InletOf x → flow e3 x (flow e2 x (flow e1 x none)) ≡ none) → (p : Use) (w : Wire) → slot tb p ≡ inner w → S3 .tok p ≡ none
     inner3 h p w q = go (link p w q)
       where
         go : Link p w → S3 .tok p ≡ none
-        go (linked x m a b) = ap (S3 .tok) a ∙ at3 x m ∙ h x
+        go (linked x m a b) = ap (S3 .tok) a ∙ at3 x m ∙ h x m
         go (unlinked a b) = tok-un e3 S2 p w q (a e3) (b e3) (tok-un e2 S1 p w q (a e2) (b e2) (tok-un e1 s p w q (a e1) (b e1) (empty p w q)))
 
     -- inner uses have room
     inlet-room : (e : Effects) (x : Inlet) → InletOf x → (w : Wire) (y : ℕ) → w ≡ output (inletFrom L x) (inletOutput x) → given (only tb L e) (some w) ≡ some y → giveBy (e (inletFrom L x)) (inletOutput x) ≡ some y
     inlet-room e x m w y b k = ap (λ (z : Option Effect). giveBy z (inletOutput x)) (sym (only-yes tb L e (inletFrom L x) (from-in x m))) ∙ ap (λ (z : Wire). given (only tb L e) (some z)) (sym b) ∙ k
 
-    pub room2 : ((x : Inlet) (y : ℕ) → giveBy (e2 (inletFrom L x)) (inletOutput x) ≡ some y → flow e1 x none ≡ none)
+    pub room2 : ((x : Inlet) → InletOf x → (y : ℕ) → giveBy (e2 (inletFrom L x)) (inletOutput x) ≡ some y → flow e1 x none ≡ none)
         → (p : Use) (w : Wire) (y : ℕ) → slot tb p ≡ inner w → given (only tb L e2) (some w) ≡ some y → S1 .tok p ≡ none
     room2 h p w y q k = go (link p w q)
       where
         go : Link p w → S1 .tok p ≡ none
-        go (linked x m a b) = ap (S1 .tok) a ∙ at1 x m ∙ h x y (inlet-room e2 x m w y b k)
+        go (linked x m a b) = ap (S1 .tok) a ∙ at1 x m ∙ h x m y (inlet-room e2 x m w y b k)
         go (unlinked a b) = tok-un e1 s p w q (a e1) (b e1) (empty p w q)
 
-    pub room3 : ((x : Inlet) (y : ℕ) → giveBy (e3 (inletFrom L x)) (inletOutput x) ≡ some y → flow e2 x (flow e1 x none) ≡ none)
+    pub room3 : ((x : Inlet) → InletOf x → (y : ℕ) → giveBy (e3 (inletFrom L x)) (inletOutput x) ≡ some y → flow e2 x (flow e1 x none) ≡ none)
         → (p : Use) (w : Wire) (y : ℕ) → slot tb p ≡ inner w → given (only tb L e3) (some w) ≡ some y → S2 .tok p ≡ none
     room3 h p w y q k = go (link p w q)
       where
         go : Link p w → S2 .tok p ≡ none
-        go (linked x m a b) = ap (S2 .tok) a ∙ at2 x m ∙ h x y (inlet-room e3 x m w y b k)
+        go (linked x m a b) = ap (S2 .tok) a ∙ at2 x m ∙ h x m y (inlet-room e3 x m w y b k)
         go (unlinked a b) = tok-un e2 S1 p w q (a e2) (b e2) (tok-un e1 s p w q (a e1) (b e1) (empty p w q))
 
     pub val3 : (p : Use) (v B c : ℕ) → slot tb p ≡ val v B c

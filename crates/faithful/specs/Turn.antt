@@ -11,23 +11,29 @@
 use mathlib.Core.Path.{_≡_, refl, sym, ap, ap₂, _∙_, subst}
 use mathlib.Core.Logic.{_≢_, _⊎_, inl, inr}
 use mathlib.Core.Bool.{Bool, true, false, _&&_}
-use mathlib.Core.Option.{Option, none, some}
+use mathlib.Core.Option.{Option, some}
 use Prim.Native.Nat.{ℕ, suc, _≤_, _<_}
 use native.Mathlib.Omega.{arith}
 use native.Mathlib.Decide.{ℕ-discrete, decLe}
 use lib.Dec.{eqb}
-use Rattle.step.specs.Kinds.{out0, out1}
 use Rattle.step.specs.Firing.{Effect}
 use Rattle.step.specs.declared.Record.{Record}
 use Rattle.table.specs.Bodies.{Row, input, const, op, pick, for, arg, next, end, out, unknown}
 use Rattle.lowered.specs.Roles.{Role, opNode, stream, gate, guard, copySplit, copyInvariant, carry, argSplit}
-use Rattle.uses.specs.Machine.{giveBy, given}
-use Rattle.faithful.specs.Table.{Table, sinceBy, IsFor, wireOf, born, since, isArg, Real}
-use Rattle.faithful.specs.Good.{Used, Good}
-use Rattle.faithful.specs.Gamma.{Env, Live, Inside, scope, before, behind, inside, around, rel, since-head, since-in, since-own}
+use Rattle.faithful.specs.Table.{Table, sinceBy, IsFor, born, since, isArg, Real}
+use Rattle.faithful.specs.Good.{Inner, Used, Good}
+use Rattle.faithful.specs.Gamma.{Env, Live, Inside, scope, Rel, before, behind, inside, around, rel, since-head, since-in, since-own}
 use Rattle.faithful.specs.Rows.{setTo, set-same, set-other, setBy}
-use Rattle.faithful.specs.Loop.{inLoop, only, arg-row, arg-in, eqb-yes, is-eqb, for-below, Fill, fillsIndex, fillsArg, fillsCopy, fillsExit, fillsNone}
-use Rattle.faithful.specs.Stages.{Effects}
+use Rattle.faithful.specs.Loop.{inLoop, arg-row, arg-in, eqb-yes, is-eqb, for-below, reads-not}
+
+-- the row where a step begins
+pub data From : Type 0 where
+  atFor atEnd : From
+
+-- where it leads: to a turn, with the index and the ARGs' words, or out, with the NEXTs' words
+pub data To : Type 0 where
+  turn : ℕ → Env → To
+  exit : Env → To
 
 abbrev pub eff : Bool → Bool → Bool → Option ℕ → Option ℕ → Record → Option Effect
 eff a b c x y r = some (record { takes0 = a; takes1 = b; takes2 = c; gives0 = x; gives1 = y; next = r })
@@ -48,7 +54,7 @@ setBy-no : (b : Bool) (w x : ℕ) → (b ≡ true → ⊥) → setBy b w x ≡ x
 setBy-no true w x h = absurd (h refl)
 setBy-no false w x h = refl
 
-and-both : (a b : Bool) → (a && b) ≡ true → (a ≡ true) × (b ≡ true)
+pub and-both : (a b : Bool) → (a && b) ≡ true → (a ≡ true) × (b ≡ true)
 and-both true b h = (refl, h)
 and-both false b h = let z : _≡_ {A = ℕ} 0 1 = cc in absurd (omega arith)
 
@@ -96,6 +102,23 @@ module _ (tb : Table) where
   -- a turn begins: the index and the ARGs
   abbrev pub turnEnv : ℕ → ℕ → Env → Env → Env
   turnEnv L x h env = setTo L x (argsTo L h env)
+
+  abbrev pub rowOf : ℕ → From → ℕ
+  rowOf L atFor = L
+  rowOf L atEnd = tb .last L
+
+  -- the body in which its uses are read
+  abbrev pub bodyOf : ℕ → From → ℕ
+  bodyOf L atFor = tb .reads L
+  bodyOf L atEnd = L
+
+  abbrev pub rowTo : ℕ → To → ℕ
+  rowTo L (turn x h) = tb .first L
+  rowTo L (exit h) = suc (tb .last L)
+
+  abbrev pub wordsTo : ℕ → Env → To → Env
+  wordsTo L env (turn x h) = turnEnv L x h env
+  wordsTo L env (exit h) = nextsTo L h env
 
   sinceBy-le : (b : Bool) (x : ℕ) → sinceBy b x ≤ x
   sinceBy-le true x = omega arith
@@ -397,14 +420,68 @@ module _ (tb : Table) where
         let z : _≡_ {A = ℕ} 0 1 = cc in omega arith
     scope-not (argSplit a) rl h e = let a = for-below tb g L f in omega arith
 
-    -- the values' wires on which a table gives nothing
-    pub g-none : (e : Effects) → giveBy (e (gate L)) out0 ≡ none → ((v : ℕ) → giveBy (e (argSplit v)) out0 ≡ none) → ((v : ℕ) → giveBy (e (argSplit v)) out1 ≡ none) → ((v : ℕ) → giveBy (e (copyInvariant L v)) out0 ≡ none)
-        → (v B : ℕ) → Fill tb g L f v B → given (only tb L e) (some (wireOf tb v B)) ≡ none
-    g-none e h1 h2 h3 h4 v B (fillsIndex a b c d) = d e ∙ h1
-    g-none e h1 h2 h3 h4 v B (fillsArg i a b c d w) = w e ∙ h2 v
-    g-none e h1 h2 h3 h4 v B (fillsCopy a b c d) = d e ∙ h4 v
-    g-none e h1 h2 h3 h4 v B (fillsExit x a b c d z w) = w e ∙ h3 (tb .argOf v)
-    g-none e h1 h2 h3 h4 v B (fillsNone a b d) = d e
+    -- ---- what the step leaves alone
 
-    pub no-gift : {A : Type 0} → (o : Option ℕ) (y : ℕ) → o ≡ none → o ≡ some y → A
-    no-gift o y a b = let z : _≡_ {A = ℕ} 0 1 = cc in absurd (omega arith)
+    -- a value's word on whose wire nothing is due
+    abbrev pub Stays : To → ℕ → ℕ → Type 0
+    Stays (turn x h) v B = B ≡ L → since tb v B ≢ 0
+    Stays (exit h) v B = (x : ℕ) → tb .row v ≡ next x → tb .loop v ≡ L → tb .home v ≡ B → ⊥
+
+    pub live-same : (from : From) (to : To) (v B d : ℕ) → Used tb v B d → d ≢ rowOf L from → Stays to v B
+        → (Live tb v B d (rowOf L from) → Live tb v B d (rowTo L to)) × (Live tb v B d (rowTo L to) → Live tb v B d (rowOf L from))
+    live-same atFor (turn x h) v B d us n w = live-open v B d us n w
+    live-same atFor (exit h) v B d us n w = live-none v B d us n w
+    live-same atEnd (turn x h) v B d us n w = live-again v B d us n w
+    live-same atEnd (exit h) v B d us n w = live-leave v B d us n w
+
+    pub word-same : (env : Env) (to : To) (v B d : ℕ) → Used tb v B d → Stays to v B → Live tb v B d (rowTo L to) → wordsTo L env to v ≡ env v
+    word-same env (turn x h) v B d us w l = turn-same v B d x h env us (l .0) w
+    word-same env (exit h) v B d us w l = leave-same v B d h env us (l .0) w
+
+    pub inside-same : (from : From) (to : To) (B : ℕ) → (B ≡ tb .size) ⊎ IsFor tb B → B ≢ L → (Inside tb B (rowOf L from) → Inside tb B (rowTo L to)) × (Inside tb B (rowTo L to) → Inside tb B (rowOf L from))
+    inside-same atFor (turn x h) B bd n = inside-open B bd n
+    inside-same atFor (exit h) B bd n = inside-none B bd n
+    inside-same atEnd (turn x h) B bd n = inside-again B bd n
+    inside-same atEnd (exit h) B bd n = inside-leave B bd n
+
+    pub outer-same : (env : Env) (to : To) (B v : ℕ) → IsFor tb B → B ≢ L → Inside tb B (rowTo L to) → v ≤ B → wordsTo L env to v ≡ env v
+    outer-same env (turn x h) B v fs n l le = let lt = outer-first-le B fs n l in turn-low v x h env (omega arith)
+    outer-same env (exit h) B v fs n l le = let lt = outer-leave B fs n l in let ff = g .for-first L f in leave-low v h env (omega arith)
+
+    -- a use that waits until the row where the step begins is not live where it leads
+    pub gone : (at : From) (to : To) (v B d : ℕ) → d ≡ rowOf L at → B ≡ bodyOf L at → Stays to v B → Live tb v B d (rowTo L to) → ⊥
+    gone atFor (turn x h) v B d e y w l = let ff = g .for-first L f in let l3 = l .3 in omega arith
+    gone atFor (exit h) v B d e y w l = let ff = g .for-first L f in let fl = g .for-last L f in let l3 = l .3 in omega arith
+    gone atEnd (turn x h) v B d e y w l =
+        let l2 : since tb v B ≤ tb .first L = l .2 in
+        elim (since-own tb g v L f) [
+          | inl z ↦ w y (ap (since tb v) y ∙ z)
+          | inr z ↦ let z′ : since tb v B ≡ since tb v L = ap (since tb v) y in omega arith
+        ]
+    gone atEnd (exit h) v B d e y w l = let l3 = l .3 in omega arith
+
+    -- ---- what is fresh where the step leads
+
+    pub body-live : (v B d : ℕ) → Used tb v B d → B ≡ L → since tb v B ≡ 0 → Live tb v B d (tb .first L)
+    body-live v B d us e z =
+        let fe : tb .first B ≡ tb .first L = ap (tb .first) e in
+        let le : tb .last B ≡ tb .last L = ap (tb .last) e in
+        let fl = g .for-last L f in
+        let lo : tb .first B ≤ d = us .place .low in
+        (omega arith, omega arith, omega arith, omega arith)
+
+    pub exit-live : (v B d : ℕ) → Used tb v B d → B ≡ tb .reads L → since tb v B ≡ suc (tb .last L) → Live tb v B d (suc (tb .last L))
+    exit-live v B d us e z =
+        let nb : since tb v B ≤ d = us .named-before in
+        let i = subst (λ (z : ℕ). Inner tb z L) (sym e) (g .for-reads L f) in
+        let lo : tb .first B ≤ L = i .low in
+        let ff = g .for-first L f in
+        let fl = g .for-last L f in
+        let hi : tb .last L < tb .last B = beyond (rel tb g B L (us .body) f (λ z. reads-not tb g L f (sym e ∙ z))) lo (i .high) in
+        (omega arith, omega arith, omega arith, omega arith)
+      where
+        beyond : Rel tb g B L → tb .first B ≤ L → L ≤ tb .last B → tb .last L < tb .last B
+        beyond (before y) lo hi = absurd (omega arith)
+        beyond (behind y z) lo hi = let ff = g .for-first L f in let fl = g .for-last L f in absurd (omega arith)
+        beyond (inside y z w) lo hi = let ff = g .for-first L f in absurd (omega arith)
+        beyond (around y z) lo hi = z
