@@ -1,8 +1,6 @@
 -- A STEP OF A LOOP, from three tables of effects. At a FOR and at an END the loop's nodes fire in three stages; a table says what each role does at
 -- its stage. What the tables must satisfy is a record, whose fields are computed from the tables; that they then make the step is proved once.
 --
---   From, To                  where the step begins, and where it leads: a turn with its index and ARGs, or out of the loop with its exit words
---   Port, port                what an input of the loop's nodes reads: an inner link, a use of the FOR, a use of the END, nothing
 --   Course                    what the tables must satisfy
 --   made                      a course is made: the firings, the configuration where the step leads, the words on the conditions
 --
@@ -25,21 +23,16 @@ use Rattle.step.specs.Firing.{Effect, perform}
 use Rattle.step.specs.Machines.{rest, holding}
 use Rattle.step.specs.declared.Record.{Record}
 use Rattle.table.specs.Bodies.{Row, for, arg, next}
-use Rattle.lowered.specs.Roles.{Role, opNode, stream, gate, guard, copySplit, copyInvariant, carry, argSplit, Wire, output, Use, into}
-use Rattle.uses.specs.Machine.{State, giveBy, takeBy, nextBy, put, drop, listed, given, taken, viewOf, Ready}
-use Rattle.faithful.specs.Table.{Table, val, inner, absent, named, IsFor, wireOf, since, slot, isArg, Real, programOf, plan}
-use Rattle.faithful.specs.Good.{Inner, Used, Good, ForUse, intoStream, intoGuard, intoSplit, intoCarry}
-use Rattle.faithful.specs.Gamma.{Env, streamHeld, Live, Inside, Shows, scope, held, Gamma, shows-same, shows-none, shows-some, Rel, before, behind, inside, around, for-not-end, rel, since-own}
+use Rattle.lowered.specs.Roles.{Role, stream, gate, guard, copySplit, copyInvariant, carry, argSplit, output, Use, into}
+use Rattle.uses.specs.Machine.{State, giveBy, takeBy, nextBy, put, drop, listed, given, taken, Ready}
+use Rattle.faithful.specs.Table.{Table, val, absent, IsFor, wireOf, since, slot, isArg, Real, programOf, plan}
+use Rattle.faithful.specs.Good.{Used, Good, ForUse, intoStream, intoGuard, intoSplit, intoCarry}
+use Rattle.faithful.specs.Gamma.{Env, streamHeld, Live, Inside, Shows, scope, held, Gamma, shows-same, shows-none, shows-some, for-not-end}
 use Rattle.faithful.specs.Rows.{sight, put-drop-none, real-body, recs-same, token-at, Path}
 use Rattle.faithful.specs.Loop.{inLoop, only, two-in, arg-in, eqb-yes, reads-not, Fill, fillsIndex, fillsArg, fillsCopy, fillsExit, fillsNone, fill, Taking, takenByFor, takenByEnd, takenByNone, takes-yes, taking}
-use Rattle.faithful.specs.Stages.{Effects, Inlet, gate0, gate1, split0, inv0, inv1, carry0, arg0, arg1, inletNode, inletInput, inletFrom, inletOutput, InletOf, node-in, inlet-slot, flow, tokv, own-in, by-role, real-in, ready-all, Runs, to-runs, S1, S2, S3, at1, at2, inner3, room2, room3, own2, own3, own-still, fired3, hist3, sayIf}
-use Rattle.faithful.specs.Turn.{From, atFor, atEnd, To, turn, exit, rowOf, bodyOf, rowTo, wordsTo, Stays, and-both, isNext, nextsTo, nexts-same, turnEnv, turn-low, turn-idx, turn-arg, live-same, word-same, inside-same, outer-same, gone, body-live, exit-live, scope-not}
-
--- what an input of a loop's node reads: an inner link, a value's use that waits until the FOR or the END, or nothing
-pub data Port : Type 0 where
-  link : Inlet → Port
-  waits : From → ℕ → Port
-  nothing : Port
+use Rattle.faithful.specs.Stages.{drop-none, drop-either, put-none, no-gift, put-late, put-nothing, Effects, Inlet, gate0, gate1, split0, inv0, inv1, carry0, arg0, arg1, inletNode, inletInput, inletFrom, inletOutput, InletOf, node-in, inlet-slot, flow, tokv, own-in, by-role, real-in, ready-all, Runs, to-runs, S1, S2, S3, at1, at2, inner3, room2, room3, own2, own3, own-still, fired3, hist3, sayIf}
+use Rattle.faithful.specs.Ports.{Port, link, waits, nothing, port, PortIs, port-is, kinds}
+use Rattle.faithful.specs.Turn.{From, atFor, atEnd, To, turn, exit, rowOf, bodyOf, rowTo, wordsTo, Stays, and-both, isNext, nextsTo, nexts-same, turnEnv, turn-low, turn-idx, turn-arg, begins-edge, leads-edge, live-same, word-same, inside-same, outer-same, gone, body-live, exit-live, scope-not}
 
 -- ---- tests on tables
 
@@ -88,58 +81,9 @@ not-late atFor atEnd t1 t2 t3 h = never-taken t1 t2 t3 h .2
 not-late atEnd atFor t1 t2 t3 h = never-taken t1 t2 t3 h .2
 not-late atEnd atEnd t1 t2 t3 h = not-true t3 (and-three t1 (not t2) (not t3) h .2)
 
-drop-none : (b : Bool) (x : Option ℕ) → x ≡ none → drop b x ≡ none
-drop-none true x h = refl
-drop-none false x h = h
-
-drop-either : (a b : Bool) (x : Option ℕ) → (a || b) ≡ true → drop b (drop a x) ≡ none
-drop-either true b x h = drop-none b none refl
-drop-either false true x h = refl
-drop-either false false x h = let z : _≡_ {A = ℕ} 0 1 = cc in absurd (omega arith)
-
-put-none : (a b : Option ℕ) → put a b ≡ none → (a ≡ none) × (b ≡ none)
-put-none none b h = (refl, h)
-put-none (some x) b h = let z : _≡_ {A = ℕ} 0 1 = cc in absurd (omega arith)
-
-no-gift : {A : Type 0} → (o : Option ℕ) (y : ℕ) → o ≡ none → o ≡ some y → A
-no-gift o y a b = let z : _≡_ {A = ℕ} 0 1 = cc in absurd (omega arith)
-
--- stages 2 and 3 at a use that is empty before; at one on which they give nothing
-put-late : (a b : Option ℕ) (t2 t3 : Bool) (x : Option ℕ) → t3 ≡ false → x ≡ none → put a (drop t3 (put b (drop t2 x))) ≡ put a b
-put-late none none t2 t3 x e h = rw e (drop-none t2 x h)
-put-late none (some y) t2 t3 x e h = rw e
-put-late (some y) b t2 t3 x e h = refl
-
-put-nothing : (a b : Option ℕ) (t2 t3 : Bool) (x : Option ℕ) → t3 ≡ false → put a b ≡ none → put a (drop t3 (put b (drop t2 x))) ≡ drop t2 x
-put-nothing a b t2 t3 x e h = let n = put-none a b h in let n0 = n .0 in let n1 = n .1 in rw (n0, n1, e)
-
 module _ (tb : Table) (g : Good tb) (L s t b u c : ℕ) (q : tb .row L ≡ for s t b u c) (env : Env) where
   abbrev isfor : IsFor tb L
   isfor = (s, t, b, u, c, q)
-
-  abbrev pub port : Role → Input → Port
-  port (opNode r) k = nothing
-  port (stream M) in0 = waits atFor s
-  port (stream M) in1 = waits atFor t
-  port (stream M) in2 = waits atFor b
-  port (gate M) in0 = link gate0
-  port (gate M) in1 = link gate1
-  port (gate M) in2 = nothing
-  port (guard M) in0 = waits atFor s
-  port (guard M) in1 = waits atFor b
-  port (guard M) in2 = nothing
-  port (copySplit M v) in0 = link (split0 v)
-  port (copySplit M v) in1 = waits atFor v
-  port (copySplit M v) in2 = nothing
-  port (copyInvariant M v) in0 = link (inv0 v)
-  port (copyInvariant M v) in1 = link (inv1 v)
-  port (copyInvariant M v) in2 = nothing
-  port (carry a) in0 = link (carry0 a)
-  port (carry a) in1 = waits atFor (named (tb .row a))
-  port (carry a) in2 = waits atEnd (named (tb .row (tb .nextOf a)))
-  port (argSplit a) in0 = link (arg0 a)
-  port (argSplit a) in1 = link (arg1 a)
-  port (argSplit a) in2 = nothing
 
   -- what a node of the loop holds where the step begins, and where it leads
   abbrev pub holds : From → Role → Record
@@ -212,14 +156,14 @@ module _ (tb : Table) (g : Good tb) (L s t b u c : ℕ) (q : tb .row L ≡ for s
     serves nothing t1 t2 t3 = true
 
     abbrev pub servesAt : Role → Input → Bool
-    servesAt n k = serves (port n k) (takeBy (e1 n) k) (takeBy (e2 n) k) (takeBy (e3 n) k)
+    servesAt n k = serves (port tb s t b n k) (takeBy (e1 n) k) (takeBy (e2 n) k) (takeBy (e3 n) k)
 
     -- of a role: what it does at the three stages, its inputs, and the record that it is left with
     abbrev pub Fits : Role → Type 0
     Fits n =
-        Does e1 (holds from n) (λ k. look1 (port n k)) n
-        × Does e2 (nextBy (e1 n) (holds from n)) (λ k. look2 (port n k) (takeBy (e1 n) k)) n
-        × Does e3 (nextBy (e2 n) (nextBy (e1 n) (holds from n))) (λ k. look3 (port n k)) n
+        Does e1 (holds from n) (λ k. look1 (port tb s t b n k)) n
+        × Does e2 (nextBy (e1 n) (holds from n)) (λ k. look2 (port tb s t b n k) (takeBy (e1 n) k)) n
+        × Does e3 (nextBy (e2 n) (nextBy (e1 n) (holds from n))) (λ k. look3 (port tb s t b n k)) n
         × ((servesAt n in0 && (servesAt n in1 && servesAt n in2)) ≡ true)
         × (nextBy (e3 n) (nextBy (e2 n) (nextBy (e1 n) (holds from n))) ≡ holdsTo to n)
 
@@ -240,34 +184,6 @@ module _ (tb : Table) (g : Good tb) (L s t b u c : ℕ) (q : tb .row L ≡ for s
       pub args : (a : ℕ) → Gives (argSplit a) out0 (dueArg to a)
       pub copies : (v : ℕ) → Gives (copyInvariant L v) out0 (dueCopy to v)
       pub nexts : (v : ℕ) → Gives (argSplit (tb .argOf v)) out1 (dueNext to v)
-
-  -- ---- a port is what it says
-  abbrev PortIs : Role → Input → Port → Type 0
-  PortIs n k (link x) = InletOf tb g L isfor x × (into n k ≡ into (inletNode L x) (inletInput x))
-  PortIs n k (waits at v) = slot tb (into n k) ≡ val v (bodyOf tb L at) (rowOf tb L at)
-  PortIs n k nothing = Unit {0}
-
-  ports : (n : Role) → inLoop tb L n ≡ true → PortIs n in0 (port n in0) × PortIs n in1 (port n in1) × PortIs n in2 (port n in2)
-  ports =
-      by-role tb g L isfor (λ (n : Role). PortIs n in0 (port n in0) × PortIs n in1 (port n in1) × PortIs n in2 (port n in2))
-      (rw q, rw q, rw q)
-      ((tt, refl), (tt, refl), tt)
-      (rw q, rw q, tt)
-      (λ v h. ((h, refl), rw h, tt))
-      (λ v h. ((h, refl), (h, refl), tt))
-      (λ a i h l. (((l, ap isArg h), refl), rw (h, l), rw (h, l)))
-      (λ a i h l. (((l, ap isArg h), refl), ((l, ap isArg h), refl), tt))
-
-  port-is : (n : Role) → inLoop tb L n ≡ true → (k : Input) → PortIs n k (port n k)
-  port-is n h in0 = ports n h .0
-  port-is n h in1 = ports n h .1
-  port-is n h in2 = ports n h .2
-
-  -- a role of the loop has its record in the loop's body, or holds nothing anywhere
-  kinds : (n : Role) → inLoop tb L n ≡ true → (scope tb n ≡ L) ⊎ ((e : Env) → held tb n e ≡ rest)
-  kinds =
-      by-role tb g L isfor (λ (n : Role). (scope tb n ≡ L) ⊎ ((e : Env) → held tb n e ≡ rest))
-      (inl refl) (inl refl) (inr (λ e. refl)) (λ v h. inr (λ e. refl)) (λ v h. inl refl) (λ a i h l. inl l) (λ a i h l. inr (λ e. refl))
 
   -- ---- THE STEP
   module _ (from : From) (to : To) (e1 e2 e3 : Effects) (C : Course from to e1 e2 e3) (σ : State) (G : Gamma tb (rowOf tb L from) env σ) where
@@ -315,7 +231,7 @@ module _ (tb : Table) (g : Good tb) (L s t b u c : ℕ) (q : tb .row L ≡ for s
         ]
 
     begins : (n : Role) → inLoop tb L n ≡ true → σ .own n ≡ holds from n
-    begins n h = go (kinds n h)
+    begins n h = go (kinds tb g L s t b u c q n h)
       where
         in-body : (f : From) → Gamma tb (rowOf tb L f) env σ → scope tb n ≡ L → σ .own n ≡ holds f n
         in-body atFor H e = H .records-out n (real-in tb g L isfor n h) (not-yet (scope tb n) e)
@@ -401,9 +317,9 @@ module _ (tb : Table) (g : Good tb) (L s t b u c : ℕ) (q : tb .row L ≡ for s
     waiting : (p : Use) (v B d : ℕ) → slot tb p ≡ val v B d → Waiting p B d
     waiting p v B d r = go (taking tb g L isfor p v B d r)
       where
-        taken-at : (n : Role) (k : Input) → p ≡ into n k → inLoop tb L n ≡ true → serves from to e1 e2 e3 (port n k) (took e1 p) (took e2 p) (took e3 p) ≡ true
+        taken-at : (n : Role) (k : Input) → p ≡ into n k → inLoop tb L n ≡ true → serves from to e1 e2 e3 (port tb s t b n k) (took e1 p) (took e2 p) (took e3 p) ≡ true
         taken-at n k e h =
-            (λ i. serves from to e1 e2 e3 (port n k) (takes-yes tb g L isfor p n k e h e1 i) (takes-yes tb g L isfor p n k e h e2 i) (takes-yes tb g L isfor p n k e h e3 i)) ∙ serves-at n h k
+            (λ i. serves from to e1 e2 e3 (port tb s t b n k) (takes-yes tb g L isfor p n k e h e1 i) (takes-yes tb g L isfor p n k e h e2 i) (takes-yes tb g L isfor p n k e h e3 i)) ∙ serves-at n h k
 
         at-for : ForUse tb p L → takesRightly from atFor (took e1 p) (took e2 p) (took e3 p) ≡ true
         at-for (intoStream in0 e) = taken-at (stream L) in0 e (eqb-yes L)
@@ -488,7 +404,7 @@ module _ (tb : Table) (g : Good tb) (L s t b u c : ℕ) (q : tb .row L ≡ for s
         go : Waiting p B d → Shows tb (T3 .tok p) v B d pc′ env′
         go (until at e y k) =
             elim (settled from at k e) [
-              | inl z ↦ shows-none tb (T3 .tok p) v B d pc′ env′ (left ∙ z) (gone tb g L isfor at to v B d e y w)
+              | inl z ↦ shows-none tb (T3 .tok p) v B d pc′ env′ (left ∙ z) (gone tb g L isfor at to v B d (g .uses p v B d r) e w)
               | inr z ↦ stay (z .0) (z .1) (z .2)
             ]
         go (elsewhere n y) = stay (n from) (y e1) (y e2)
@@ -526,17 +442,17 @@ module _ (tb : Table) (g : Good tb) (L s t b u c : ℕ) (q : tb .row L ≡ for s
     word-at atEnd atFor H p v r = let ff = g .for-first L isfor in let fl = g .for-last L isfor in H .values p v (tb .reads L) L r .off (λ l. let l3 = l .3 in omega arith)
     word-at atEnd atEnd H p v r = token-at tb g (tb .last L) env σ H p v L r
 
-    seen1 : (n : Role) (k : Input) (x : Port) → PortIs n k x → σ .tok (into n k) ≡ look1 from to e1 e2 e3 x (σ .tok (into n k))
+    seen1 : (n : Role) (k : Input) (x : Port) → PortIs tb g L s t b u c q n k x → σ .tok (into n k) ≡ look1 from to e1 e2 e3 x (σ .tok (into n k))
     seen1 n k (link x) m = ap (σ .tok) (m .1) ∙ G .inners (into (inletNode L x) (inletInput x)) (output (inletFrom L x) (inletOutput x)) (inlet-slot tb g L isfor x (m .0))
     seen1 n k (waits at v) m = word-at from at G (into n k) v m
     seen1 n k nothing m = refl
 
-    seen2 : (n : Role) (k : Input) (x : Port) → inLoop tb L n ≡ true → PortIs n k x → T1 .tok (into n k) ≡ look2 from to e1 e2 e3 x (takeBy (e1 n) k) (T1 .tok (into n k))
+    seen2 : (n : Role) (k : Input) (x : Port) → inLoop tb L n ≡ true → PortIs tb g L s t b u c q n k x → T1 .tok (into n k) ≡ look2 from to e1 e2 e3 x (takeBy (e1 n) k) (T1 .tok (into n k))
     seen2 n k (link x) h m = ap (T1 .tok) (m .1) ∙ at1 tb g L isfor e1 e2 e3 σ (G .inners) x (m .0)
     seen2 n k (waits at v) h m = after1 (into n k) v (bodyOf tb L at) (rowOf tb L at) m ∙ ap₂ drop (takes-yes tb g L isfor (into n k) n k refl h e1) (word-at from at G (into n k) v m)
     seen2 n k nothing h m = refl
 
-    seen3 : (n : Role) (k : Input) (x : Port) → PortIs n k x → T2 .tok (into n k) ≡ look3 from to e1 e2 e3 x (T2 .tok (into n k))
+    seen3 : (n : Role) (k : Input) (x : Port) → PortIs tb g L s t b u c q n k x → T2 .tok (into n k) ≡ look3 from to e1 e2 e3 x (T2 .tok (into n k))
     seen3 n k (link x) m = ap (T2 .tok) (m .1) ∙ at2 tb g L isfor e1 e2 e3 σ (G .inners) x (m .0)
     seen3 n k (waits at v) m = refl
     seen3 n k nothing m = refl
@@ -569,14 +485,14 @@ module _ (tb : Table) (g : Good tb) (L s t b u c : ℕ) (q : tb .row L ≡ for s
     ready1 : (n : Role) (d : Effect) → inLoop tb L n ≡ true → e1 n ≡ some d → Ready (plan tb) n d σ
     ready1 =
         ready-all tb g L isfor e1 σ
-        (to-runs tb g L isfor e1 σ (λ n h. runs e1 σ (holds from n) (λ k. look1 from to e1 e2 e3 (port n k)) n (λ k. seen1 n k (port n k) (port-is n h k)) (begins n h) (fits n h .0)))
+        (to-runs tb g L isfor e1 σ (λ n h. runs e1 σ (holds from n) (λ k. look1 from to e1 e2 e3 (port tb s t b n k)) n (λ k. seen1 n k (port tb s t b n k) (port-is tb g L s t b u c q n h k)) (begins n h) (fits n h .0)))
         (λ p w y r k. G .inners p w r) (λ p v B d y r k. no-gift (gave e1 v B) y (on-first p v B d r) k)
 
     ready2 : (n : Role) (d : Effect) → inLoop tb L n ≡ true → e2 n ≡ some d → Ready (plan tb) n d T1
     ready2 =
         ready-all tb g L isfor e2 T1
         (to-runs tb g L isfor e2 T1
-        (λ n h. runs e2 T1 (nextBy (e1 n) (holds from n)) (λ k. look2 from to e1 e2 e3 (port n k) (takeBy (e1 n) k)) n (λ k. seen2 n k (port n k) h (port-is n h k))
+        (λ n h. runs e2 T1 (nextBy (e1 n) (holds from n)) (λ k. look2 from to e1 e2 e3 (port tb s t b n k) (takeBy (e1 n) k)) n (λ k. seen2 n k (port tb s t b n k) h (port-is tb g L s t b u c q n h k))
         (own-in tb g L isfor e1 σ n h ∙ ap (nextBy (e1 n)) (begins n h)) (fits n h .1)))
         (room2 tb g L isfor e1 e2 e3 σ (G .inners) (λ x m y k. finds-none (giveBy (e2 (inletFrom L x)) (inletOutput x)) (flow1 from to e1 e2 e3 x) y (links x m .0) k)) room-two
 
@@ -584,7 +500,7 @@ module _ (tb : Table) (g : Good tb) (L s t b u c : ℕ) (q : tb .row L ≡ for s
     ready3 =
         ready-all tb g L isfor e3 T2
         (to-runs tb g L isfor e3 T2
-        (λ n h. runs e3 T2 (nextBy (e2 n) (nextBy (e1 n) (holds from n))) (λ k. look3 from to e1 e2 e3 (port n k)) n (λ k. seen3 n k (port n k) (port-is n h k))
+        (λ n h. runs e3 T2 (nextBy (e2 n) (nextBy (e1 n) (holds from n))) (λ k. look3 from to e1 e2 e3 (port tb s t b n k)) n (λ k. seen3 n k (port tb s t b n k) (port-is tb g L s t b u c q n h k))
         (own2 tb g L isfor e1 e2 e3 σ (G .inners) n h ∙ ap (λ (z : Record). nextBy (e2 n) (nextBy (e1 n) z)) (begins n h)) (fits n h .2)))
         (room3 tb g L isfor e1 e2 e3 σ (G .inners) (λ x m y k. finds-none (giveBy (e3 (inletFrom L x)) (inletOutput x)) (flow2 from to e1 e2 e3 x) y (links x m .1) k)) room-three
 
@@ -604,10 +520,10 @@ module _ (tb : Table) (g : Good tb) (L s t b u c : ℕ) (q : tb .row L ≡ for s
 
         go : (x : Bool) → inLoop tb L n ≡ x → Recorded pc′ env′ n
         go true h =
-            in-loop to (own3 tb g L isfor e1 e2 e3 σ (G .inners) n h ∙ ap (λ (z : Record). nextBy (e3 n) (nextBy (e2 n) (nextBy (e1 n) z))) (begins n h) ∙ fits n h .4) (kinds n h)
+            in-loop to (own3 tb g L isfor e1 e2 e3 σ (G .inners) n h ∙ ap (λ (z : Record). nextBy (e3 n) (nextBy (e2 n) (nextBy (e1 n) z))) (begins n h) ∙ fits n h .4) (kinds tb g L s t b u c q n h)
         go false h =
             let sn = scope-not tb g L isfor n rl h in
-            let io = inside-same tb g L isfor from to (scope tb n) (real-body tb g n rl) sn in
+            let io = inside-same tb g L isfor (scope tb n) (rowOf tb L from) pc′ (real-body tb g n rl) sn (begins-edge tb g L isfor from) (leads-edge tb g L isfor to) in
             recs-same tb g (rowOf tb L from) pc′ env env′ n rl σ T3 G (own-still tb g L isfor e1 e2 e3 σ (G .inners) n h) (io .0) (io .1) (λ l v fs le. outer-same tb g L isfor env to (scope tb n) v fs sn l le)
 
     -- the words that the three stages put on an output

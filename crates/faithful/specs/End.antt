@@ -103,6 +103,7 @@ module _ (tb : Table) (g : Good tb) (L s t b u c : ℕ) (q : tb .row L ≡ for s
     abbrev pub env1 : Env
     env1 = turnEnv tb L index news env
 
+    -- of each role: stages 1, 2 and 3, its inputs, its record
     repeats : Course tb g L s t b u c q env atEnd (turn index news) a1 a2 a3
     repeats =
         record {

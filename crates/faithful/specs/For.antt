@@ -4,10 +4,10 @@
 --                             SPLIT lets its word in; GATE gives the index, each CARRY takes `d`, each ARG's SPLIT gives it, each INVARIANT takes its seed
 --   step-none                 no turn: the same, but each copy's SPLIT turns its word away and each ARG's SPLIT gives the exit word
 --
--- All that is known of STREAM, GATE, CARRY, INVARIANT and SPLIT at an opening stands here: latch-run, pair-yes, pair-no, guard-compares and the
--- tables of effects. Another edition of the machines has other tables.
+-- All that is known of STREAM, GATE, CARRY, INVARIANT and SPLIT at an opening stands here: latch-run, pair-yes, pair-no, guard-run, split-yes,
+-- split-no and the tables of effects. Another edition of the machines has other tables; that tables make the step is proved once (Course).
 -- Assumes nothing.
-use mathlib.Core.Path.{_≡_, refl, sym, ap, _∙_}
+use mathlib.Core.Path.{_≡_, refl, ap, _∙_}
 use mathlib.Core.Logic.{_≢_, inl, inr}
 use mathlib.Core.Bool.{Bool, true, false}
 use mathlib.Core.Option.{Option, none, some}
@@ -17,7 +17,7 @@ use native.Mathlib.Omega.{arith}
 use lib.Dec.{eqb}
 use Rattle.word.specs.Laws.{operate-is-condition}
 use Rattle.word.specs.Words.{condition, update, operate}
-use Rattle.step.specs.Kinds.{STREAM, SPLIT}
+use Rattle.step.specs.Kinds.{STREAM, SPLIT, OP}
 use Rattle.step.specs.Firing.{perform}
 use Rattle.step.specs.Machines.{program, rest, inPhase, holding}
 use Rattle.table.specs.Bodies.{for}
@@ -44,6 +44,9 @@ code-quo u c h = omega arith
 -- the guard compares as the STREAM's first pair does
 pub guard-compares : (c x y : ℕ) → operate (suc (suc (suc c))) x y ≡ condition c x y
 guard-compares c x y = operate-is-condition (suc (suc (suc c))) x y (omega arith) ∙ ap (λ (z : ℕ). condition z x y) (let e : suc (suc (suc c)) - 3 ≡ c = omega arith in e)
+
+pub guard-run : (c x y : ℕ) (z : Option ℕ) → perform (program OP (suc (suc (suc c))) rest) (sight (some x) (some y) z rest) ≡ eff true true false (some (condition c x y)) none rest
+guard-run c x y z = ap (λ (w : ℕ). eff true true false (some w) none rest) (guard-compares c x y)
 
 -- STREAM's firings
 pub latch-run : (code a s b : ℕ) → s ≢ 0 → perform (program STREAM code rest) (sight (some a) (some s) (some b) rest) ≡ eff true true true none none (holding a s b)
@@ -127,6 +130,7 @@ module _ (tb : Table) (g : Good tb) (L s t b u c : ℕ) (q : tb .row L ≡ for s
     abbrev pub env1 : Env
     env1 = turnEnv tb L (env s) initials env
 
+    -- of each role: stages 1, 2 and 3, its inputs, its record
     opens : Course tb g L s t b u c q env atFor (turn (env s) initials) f1 o2 o3
     opens =
         record {
@@ -138,7 +142,7 @@ module _ (tb : Table) (g : Good tb) (L s t b u c : ℕ) (q : tb .row L ≡ for s
             stream-turns tb g L s t b u c q env (env s) initials,
           );
           of-gate = (inl refl, inl refl, inr (λ _ _ _. refl), refl, refl);
-          of-guard = (inr (λ _ _ _. rw q (ap (λ (z : ℕ). eff true true false (some z) none rest) (guard-compares c (env s) (env b)))), inl refl, inl refl, refl, refl);
+          of-guard = (inr (λ _ _ y. rw q (guard-run c (env s) (env b) y)), inl refl, inl refl, refl, refl);
           of-split = λ v h. (inl refl, inr (λ _ _ y. split-yes (condition c (env s) (env b)) k (env v) y yes-turn), inl refl, refl, refl);
           of-invariant = λ v h. (inl refl, inl refl, inr (λ _ _ _. refl), refl, copy-turns tb g L s t b u c q env (env s) initials v h);
           of-carry = λ a i h l. (inr (λ _ _ _. refl), inl refl, inr (λ _ _ _. refl), refl, refl);
@@ -166,7 +170,7 @@ module _ (tb : Table) (g : Good tb) (L s t b u c : ℕ) (q : tb .row L ≡ for s
         record {
           of-stream = (inr (λ _ _ _. rw q (latch-run (5 * u + c) (env s) (env t) (env b) nz)), inr (λ _ _ _. rw q (pair-no u c (env s) (env t) (env b) none none none (g .for-code L s t b u c q) no-turn)), inl refl, refl, refl);
           of-gate = (inl refl, inl refl, inr (λ _ _ _. refl), refl, refl);
-          of-guard = (inr (λ _ _ _. rw q (ap (λ (z : ℕ). eff true true false (some z) none rest) (guard-compares c (env s) (env b)))), inl refl, inl refl, refl, refl);
+          of-guard = (inr (λ _ _ y. rw q (guard-run c (env s) (env b) y)), inl refl, inl refl, refl, refl);
           of-split = λ v h. (inl refl, inr (λ _ _ y. split-no (condition c (env s) (env b)) (env v) y no-turn), inl refl, refl, refl);
           of-invariant = λ v h. (inl refl, inl refl, inl refl, refl, refl);
           of-carry = λ a i h l. (inr (λ _ _ _. refl), inl refl, inr (λ _ _ _. refl), refl, refl);
