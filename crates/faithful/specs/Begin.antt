@@ -5,7 +5,7 @@
 --   state0, shown0, gamma0    the use machine's first state, shown by the graph, is the reading's at row 0
 --
 -- Assumes nothing.
-use mathlib.Core.Path.{_≡_, refl, sym, ap, ap₂, _∙_, subst}
+use mathlib.Core.Path.{_≡_, refl, sym, ap, _∙_, subst}
 use mathlib.Core.Logic.{_≢_, inl, inr}
 use mathlib.Core.Bool.{Bool, true, false}
 use mathlib.Core.Option.{Option, none, some}
@@ -19,7 +19,7 @@ use Rattle.state.specs.Net.{Net}
 use Rattle.lowered.specs.Lists.{Among, Once}
 use Rattle.lowered.specs.Roles.{Role, opNode, stream, gate, guard, copySplit, copyInvariant, carry, argSplit, Wire, start, output, Use}
 use Rattle.uses.specs.Machine.{State}
-use Rattle.uses.specs.Wires.{Tokens, Steps2, steps2-append, puts2, puts2-append, Spreads, spread}
+use Rattle.uses.specs.Wires.{Tokens, Steps2, steps2-append, puts2, puts2-both, Spreads, spread}
 use Rattle.uses.specs.Layout.{Layout, Made, Tree, UseOf, Shown, use-in-tree, use-tree, among-use}
 use Rattle.faithful.specs.Table.{Table, Slot, val, isIn, IsFor, wireOf, slot, slotWire, src, Real, plan}
 use Rattle.faithful.specs.Good.{Good, Source, fromStart, fromOp, fromFor, fromArg, fromNext, fromCopy, source, Inward, gateIndex, gateCondition, splitGuard, copyCondition, copySeed, carryCondition, argCondition, argCarried, inward}
@@ -111,7 +111,7 @@ module _ (tb : Table) (net : Net) (y : Layout (plan tb) net) (env : Env) where
         q .1,
         steps2-append net (r .0) (q .0) Z (r .1) (q .1) (r .2) (q .2),
         q .3,
-        λ n o mo. puts2-append net (r .0) (q .0) Z (r .1) (q .1) (r .2) (q .2) (y .ww (output n o)) ∙ ap₂ {C = List ℕ} (λ a c. a ++ c) (r .4 n o mo) (q .4 n o mo),
+        λ n o mo. puts2-both net (r .0) (q .0) Z (r .1) (q .1) (r .2) (q .2) (y .ww (output n o)) [] [] (r .4 n o mo) (q .4 n o mo),
       )
 
   -- the use machine's first state

@@ -368,6 +368,11 @@ module _ (t : List ℕ) (S : Structure t) where
       }
 
   -- ---- and nothing else
+
+  -- what holds of the uses at a place of the list holds of the wire with that number
+  by-number : (P : List Use → ℕ → Type 0) (w : Wire) (i : ℕ) (us : List Use) → wireNumber t w ≡ i → us ≡ users t w → P us i → P (users t w) (wireNumber t w)
+  by-number P w i us e d h = subst (P (users t w)) (sym e) (subst (λ (z : List Use). P z i) d h)
+
   pub wires-of : (x : ℕ) → x < wireCount (loweredWords t) → (w : Wire) × Made (plan tb) w × Tree (plan tb) (netOf (loweredWords t)) layout x w
   unfolding layout wireTotal plainWires allUsers
   wires-of x l =
@@ -383,8 +388,7 @@ module _ (t : List ℕ) (S : Structure t) where
             let ix = number-is (u .0) (r .0) (u .1) in (
               u .0,
               m,
-              inr (subst (λ (i : ℕ). Among x (tails (users t (u .0)) (freeAt (usersEach t (wires t)) (length (wires t)) i))) (sym ix)
-                  (subst (λ (us : List Use). Among x (tails us (freeAt (usersEach t (wires t)) (length (wires t)) (r .0)))) (u .2) (r .3))),
+              inr (by-number (λ us i. Among x (tails us (freeAt (usersEach t (wires t)) (length (wires t)) i))) (u .0) (r .0) (r .1) ix (u .2) (r .3)),
             )
       ]
 
@@ -411,8 +415,7 @@ module _ (t : List ℕ) (S : Structure t) where
             inr (
               u .0,
               m,
-              subst (λ (z : ℕ). Among i (upFrom (length (roles t) + forkAt (usersEach t (wires t)) 0 z) (forkNodes (users t (u .0))))) (sym ix)
-                  (subst (λ (us : List Use). Among i (upFrom (length (roles t) + forkAt (usersEach t (wires t)) 0 (r .0)) (forkNodes us))) (u .2) (subst (λ (z : ℕ). Among i (upFrom z (forkNodes (r .1)))) sh (r .3))),
+              by-number (λ us z. Among i (upFrom (length (roles t) + forkAt (usersEach t (wires t)) 0 z) (forkNodes us))) (u .0) (r .0) (r .1) ix (u .2) (subst (λ (z : ℕ). Among i (upFrom z (forkNodes (r .1)))) sh (r .3)),
             )
       ]
 

@@ -4,6 +4,8 @@
 --   From, To                  where a step begins: at FOR, at END; where it leads: into a turn, out of the loop
 --   live-same, word-same      a use that the step does not touch is live after it exactly if before, with the same word
 --   inside-same, outer-same   likewise for the bodies that pc is inside, and the words of the loops among them
+--   gone, body-live, exit-live
+--                             what the step takes is not live after it, and what it gives is
 --
 -- Assumes nothing.
 use mathlib.Core.Path.{_≡_, refl, sym, ap, ap₂, _∙_, subst}

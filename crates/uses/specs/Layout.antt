@@ -27,7 +27,7 @@ use Rattle.confluence.specs.Histories.{putOn, puts}
 use Rattle.lowered.specs.Lists.{Among, Once}
 use Rattle.lowered.specs.Roles.{Role, sameRole, Wire, start, output, Use, into, result}
 use Rattle.uses.specs.Machine.{Plan, State, giveBy, takeBy, nextBy, put, drop, listed, given, taken, viewOf, after, one, one-same, one-other, Ready, Steps}
-use Rattle.uses.specs.Wires.{Tokens, vacant, inTok, hasSpace, clearTok, fillTok, recBy, view2, fire2, Steps2, steps2-append, puts2, puts2-append, Spread, below, nodes, OneOf, Spreads, uses-in, spread}
+use Rattle.uses.specs.Wires.{Tokens, vacant, inTok, hasSpace, clearTok, fillTok, recBy, view2, fire2, Steps2, steps2-append, puts2, puts2-append, puts2-both, Spread, below, nodes, OneOf, Spreads, uses-in, spread}
 
 not-both : {A : Type 0} (o : Option ℕ) (y : ℕ) → o ≡ none → o ≡ some y → A
 not-both o y a b = let z : _≡_ {A = ℕ} 0 1 = cc in absurd (omega arith)
@@ -484,6 +484,14 @@ module _ (plan : Plan) (net : Net) (y : Layout plan net) where
         let d : output n o′ ≡ output m o = y .tree-apart (output n o′) (output m o) (made o′ z h) mm (y .ww (output m o)) (inr t) (inl refl) in
         y .tree-once (output m o) mm .0 (subst (λ (w : Wire). Among (y .ww (output m o)) (y .tail w)) d t)
 
+    -- the node's words; what follows it puts none on an output
+    fire-words : (m : Role) (o : Output) → Made plan (output m o) → (xs ys : List ℕ) (A B : Tokens) (p : Steps2 net xs Z1 A) (r : Steps2 net ys A B)
+        → puts2 net xs Z1 A p (y .ww (output m o)) ≡ [] → puts2 net ys A B r (y .ww (output m o)) ≡ []
+        → s .hist m o ++ (puts net i e (y .ww (output m o)) ++ puts2 net (xs ++ ys) Z1 B (steps2-append net xs ys Z1 A B p r) (y .ww (output m o))) ≡ after plan (one n e) s .hist m o
+    fire-words m o mm xs ys A B p r a b =
+        ap (λ (l : List ℕ). s .hist m o ++ l)
+        (ap₂ {C = List ℕ} (λ x z. x ++ z) (node-puts m o mm) (puts2-both net xs ys Z1 A B p r (y .ww (output m o)) [] [] a b) ∙ append-nil (listed (giveBy (one n e m) o)))
+
     -- ONE FIRING: the node, then the forks or the drain of what it gave
     pub fire-shown : (is : List ℕ) × (B : Tokens) × (q : Steps2 net is Z B) × Shown B (after plan (one n e) s)
         × ((m : Role) (o : Output) → Made plan (output m o) → s .hist m o ++ puts2 net is Z B q (y .ww (output m o)) ≡ after plan (one n e) s .hist m o)
@@ -499,11 +507,7 @@ module _ (plan : Plan) (net : Net) (y : Layout plan net) where
           r1 .1,
           (e, fires, steps2-append net (r0 .0) (r1 .0) Z1 A (r1 .1) (r0 .2) (r1 .2)),
           shown3 A (r1 .1) a (r1 .3),
-          λ m o mm. ap (λ (l : List ℕ). s .hist m o ++ l)
-              (ap₂ {C = List ℕ} (λ x z. x ++ z) (node-puts m o mm)
-              (puts2-append net (r0 .0) (r1 .0) Z1 A (r1 .1) (r0 .2) (r1 .2) (y .ww (output m o))
-              ∙ ap₂ {C = List ℕ} (λ x z. x ++ z) (r0 .4 (y .ww (output m o)) (root-not-tail m o mm out0)) (r1 .4 (y .ww (output m o)) (root-not-tail m o mm out1)))
-              ∙ append-nil (listed (giveBy (one n e m) o))),
+          λ m o mm. fire-words m o mm (r0 .0) (r1 .0) A (r1 .1) (r0 .2) (r1 .2) (r0 .4 (y .ww (output m o)) (root-not-tail m o mm out0)) (r1 .4 (y .ww (output m o)) (root-not-tail m o mm out1)),
         )
 
   -- A RUN of the use machine is one of the real graph

@@ -60,6 +60,10 @@ abbrev pub recBy : Bool → Record → Record → Record
 recBy true x t = x
 recBy false x t = t
 
+-- with its lists written out, so that no call has to find them
+joined : (a b l m : List ℕ) → a ≡ l → b ≡ m → a ++ b ≡ l ++ m
+joined a b l m p q = ap₂ {C = List ℕ} (λ x y. x ++ y) p q
+
 module _ (net : Net) where
   abbrev pub view2 : Tokens → ℕ → View
   view2 Z i =
@@ -103,6 +107,11 @@ module _ (net : Net) where
     puts2-append (i ∷ xs) ys Z U X r q w =
         ap (λ (l : List ℕ). puts net i (r .0) w ++ l) (puts2-append xs ys (fire2 i (r .0) Z) U X (r .2) q w)
         ∙ sym (append-assoc (puts net i (r .0) w) (puts2 xs (fire2 i (r .0) Z) U (r .2) w) (puts2 ys U X q w))
+
+    -- so, where both are known
+    pub puts2-both : (xs ys : List ℕ) (Z U X : Tokens) (r : Steps2 xs Z U) (q : Steps2 ys U X) (w : ℕ) (l m : List ℕ) → puts2 xs Z U r w ≡ l → puts2 ys U X q w ≡ m
+        → puts2 (xs ++ ys) Z X (steps2-append xs ys Z U X r q) w ≡ l ++ m
+    puts2-both xs ys Z U X r q w l m a b = puts2-append xs ys Z U X r q w ∙ joined (puts2 xs Z U r w) (puts2 ys U X q w) l m a b
 
 module _ (net : Net) where
   pub record IsFork (f x y1 y2 : ℕ) : Type 0 where
@@ -286,6 +295,6 @@ module _ (net : Net) where
           ih .1,
           (forkEff y, fork-fires f x y1 y2 y Z h e (b y1 (inl refl)) (b y2 (inr (inl refl))) (r f (inl refl)), ih .2),
           fork-spreads p f x y1 y2 y Z (ih .1) h k s o (b y2 (inr (inl refl))) (r f (inl refl)) (ih .3),
-          λ w n. ap₂ {C = List ℕ} (λ l m. l ++ m) (on-two (net .output f out0) (net .output f out1) (some y) (some y) w (λ u c d. n (inl (is-some u y1 w (sym c ∙ h .leg0) d))) (λ u c d. n (inr (inl (is-some u y2 w (sym c ∙ h .leg1) d)))))
+          λ w n. joined (puts net f (forkEff y) w) (puts2 net (ih .0) (fire2 net f (forkEff y) Z) (ih .1) (ih .2) w) [] [] (on-two (net .output f out0) (net .output f out1) (some y) (some y) w (λ u c d. n (inl (is-some u y1 w (sym c ∙ h .leg0) d))) (λ u c d. n (inr (inl (is-some u y2 w (sym c ∙ h .leg1) d)))))
               (ih .4 w (λ m. n (inr (inr m)))),
         )
