@@ -12,19 +12,17 @@
 --   only-inputs-are-refused       a graph that `lower` has written is refused by `load` for the inputs' or the state's length alone
 --
 -- Assumes nothing.
-use Prim.Native.Nat.{ℕ, zero, suc, _+_, _-_, _≤_}
+use Prim.Native.Nat.{ℕ, _+_, _-_, _≤_}
 use mathlib.Core.Path.{_≡_, refl, sym, ap, ap₂, _∙_, subst}
 use mathlib.Core.Logic.{_≢_}
-use mathlib.Core.Bool.{Bool, true, false, cond}
+use mathlib.Core.Bool.{Bool, cond}
 use mathlib.Core.List.{List, [], _∷_, _++_}
 use native.Mathlib.Omega.{arith}
-use native.Mathlib.Nat.{zero-add}
-use borrow.Author.Tests.{eq-eqb, leb-true}
-use lib.Dec.{eqb, leb}
+use borrow.Author.Tests.{eq-eqb}
+use lib.Dec.{eqb}
 use lib.ListN.{length, take, drop}
-use lib.Seq.{sets, sets-eq}
+use lib.Seq.{sets-eq}
 use Rattle.word.specs.Words.{pick}
-use Rattle.graph.specs.Graph.{nodeCount}
 use Rattle.graph.specs.Refusal.{graphRefusal}
 use Rattle.state.specs.Legal.{rightLength}
 use Rattle.state.specs.Load.{inputCount, loaded}
@@ -38,7 +36,7 @@ use Rattle.confluence.specs.Statements.{runOf, madeBy, run-is-an-order}
 use Rattle.reading.specs.Reading.{Opening, ended, zeroStep}
 use Rattle.reading.specs.Outcome.{Reads}
 use Rattle.lowered.specs.Lower.{loweredWords}
-use Rattle.lowered.specs.Room.{hasRoom, fitsInto, lowerRefusal, lowerAnswer, lentAfter}
+use Rattle.lowered.specs.Room.{lowerRefusal, lowerAnswer, lentAfter}
 use Rattle.laid.specs.Answers.{success-writes-the-graph-first, written-graph-is-accepted, written-graph-fits}
 use Rattle.lowering.specs.Answers.{LowerAnswer}
 use Rattle.faithful.specs.Endings.{AsRead}

@@ -9,7 +9,7 @@
 --
 -- Assumes nothing.
 use Prim.Native.Nat.{ℕ, _+_, _≤_, _<_}
-use mathlib.Core.Path.{_≡_, refl, sym, ap, ap₂, _∙_, subst}
+use mathlib.Core.Path.{_≡_, sym, ap, ap₂, _∙_}
 use mathlib.Core.Logic.{_≢_}
 use mathlib.Core.List.{List, _++_}
 use native.Mathlib.Omega.{arith}
@@ -17,12 +17,12 @@ use lib.ListN.{length, take, drop}
 use lib.Seq.{sets-eq}
 use Rattle.graph.specs.Refusal.{graphRefusal}
 use Rattle.table.specs.Rows.{size}
-use Rattle.table.specs.Check.{Refusal, answer, tableRefusal}
+use Rattle.table.specs.Check.{answer}
 use Rattle.lowered.specs.Lower.{loweredWords}
-use Rattle.lowered.specs.Room.{ROOM, checkAnswer, lowerRefusal, lowerAnswer, lentAfter}
+use Rattle.lowered.specs.Room.{ROOM, checkAnswer, lowerRefusal, lowerAnswer}
 use Rattle.laid.specs.Answers.{check-passes-exactly-if-lower-does, refusal-leaves-the-lent-words, success-writes-the-graph-first, lower-refuses-too-little-room, passed-check, written-graph-fits}
 use Rattle.lowering.specs.Answers.{LowerAnswer}
-use Rattle.demands.specs.Rehearsal.{Graph, graph-is-accepted}
+use Rattle.demands.specs.Rehearsal.{graph-is-accepted}
 
 pub one-check : (t : List ℕ) (n r m q : ℕ) → answer n r ≡ checkAnswer t → answer m q ≡ checkAnswer t → (n ≡ m) × (r ≡ q)
 one-check t n r m q a b = (ap (λ x. x .number) (a ∙ sym b), ap (λ x. x .row) (a ∙ sym b))

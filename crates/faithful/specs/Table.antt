@@ -18,7 +18,7 @@ use native.Mathlib.Omega.{arith}
 use lib.Dec.{eqb}
 use Rattle.step.specs.Kinds.{Input, in0, in1, in2, Output, out0, out1, STREAM, GATE, CARRY, INVARIANT, SPLIT, OP, PICK}
 use Rattle.step.specs.Firing.{View, Effect, Program, stop, give, ask, perform, gives, fillable}
-use Rattle.step.specs.Machines.{program, rest, inPhase, holding, whether}
+use Rattle.step.specs.Machines.{program, whether}
 use Rattle.step.specs.Locality.{asking-inv, giving-inv, taking-gives}
 use Rattle.step.specs.declared.Record.{Record}
 use Rattle.step.specs.Machines

@@ -6,10 +6,10 @@
 --   header-counts                     the header's four counts are those of the definition
 --
 -- Assumes nothing.
-use Prim.Native.Nat.{ℕ, zero, suc, _+_, _-_, _*_, _≤_, _<_}
-use mathlib.Core.Path.{_≡_, refl, sym, ap, ap₂, _∙_, subst}
+use Prim.Native.Nat.{ℕ, zero, suc, _+_, _-_, _≤_, _<_}
+use mathlib.Core.Path.{_≡_, refl, sym, ap, ap₂, _∙_}
 use mathlib.Core.Logic.{_⊎_, inl, inr}
-use mathlib.Core.Bool.{Bool, true, false, cond, _&&_}
+use mathlib.Core.Bool.{Bool, true, false, cond}
 use mathlib.Core.List.{List, [], _∷_, _++_}
 use mathlib.Core.Option.{Option, none, some}
 use native.Mathlib.Omega.{arith}
@@ -20,7 +20,7 @@ use lib.ListN.{length, getD, getElem?, length-append}
 use Rattle.word.specs.Words.{flag, pick}
 use Rattle.step.specs.Kinds.{inputSort, Input}
 use Rattle.graph.specs.Below.{total}
-use Rattle.graph.specs.Graph.{nodeCount, wireCount, startCount, resultCount, startKindAt, startWordAt, inputsBefore, resultAt, Node, nodeAt, hasInput, wireOn, inputOf, inputAt, outputCount, firstAt, sortAt}
+use Rattle.graph.specs.Graph.{nodeCount, wireCount, startKindAt, startWordAt, inputsBefore, resultAt, Node, nodeAt, hasInput, wireOn, inputAt, outputCount, firstAt, sortAt}
 use Rattle.graph.specs.Refusal.{Shaped, graphRefusal}
 use Rattle.graph.specs.Accepted.{Row, Accepted, input-of-node, node-in-range}
 use Rattle.graph.specs.Enough.{accepted-is-not-refused}
@@ -28,18 +28,17 @@ use Rattle.table.specs.Rows.{kindOf, size}
 use Rattle.table.specs.Check.{tableRefusal, answer}
 use Rattle.structure.specs.Structure.{Structure, passing-table-has-structure}
 use Rattle.lowered.specs.Gathered.{those, each}
-use Rattle.lowered.specs.Roles.{start, Wire, Use, result}
-use Rattle.lowered.specs.Sources.{source}
-use Rattle.lowered.specs.Lower.{isStart, startRows, starts, isOut, outRows, standsOn, loweredNodes, startWords, nodeTotal, wireTotal, startTotal, resultTotal, loweredWords}
+use Rattle.lowered.specs.Roles.{start, result}
+use Rattle.lowered.specs.Lower.{isStart, startRows, starts, outRows, loweredNodes, startWords, nodeTotal, wireTotal, startTotal, resultTotal, loweredWords}
 use Rattle.lowered.specs.Room.{hasRoom}
-use Rattle.laid.specs.Lists.{Among, there, in-range, has-elem, elem-left, elem-right, none-some, below-or-last}
-use Rattle.laid.specs.Indexed.{total-same, total-along, sumOf, sum-append, each-long}
+use Rattle.laid.specs.Lists.{there, in-range, has-elem, elem-left, elem-right, none-some}
+use Rattle.laid.specs.Indexed.{total-same, total-along, sumOf, sum-append}
 use Rattle.laid.specs.Listed.{and-both}
 use Rattle.laid.specs.Uses.{result-use-is-listed}
 use Rattle.laid.specs.Made.{result-feed, result-source}
 use Rattle.laid.specs.Taken.{stands-below, read-once, out-row}
 use Rattle.laid.specs.Sorted.{stands-sorted}
-use Rattle.laid.specs.Numbered.{Right, right-at, rows-are-right, all-outputs, Fits, fit-at, rows-fit}
+use Rattle.laid.specs.Numbered.{right-at, rows-are-right, all-outputs, Fits, fit-at, rows-fit}
 use Rattle.laid.specs.Words.{node-in-list, nodes-are-counted, node-count, wire-count, start-count, result-count, words-long, start-kind-at, start-word-at, result-at, node-at}
 
 -- ---- inputs in order: those that pass q, counted along those that pass p

@@ -8,22 +8,22 @@
 --
 -- Assumes nothing.
 use Prim.Native.Nat.{ℕ, zero, suc, _+_, _*_, _≤_, _<_}
-use mathlib.Core.Path.{_≡_, refl, sym, ap, ap₂, _∙_, subst}
-use mathlib.Core.Logic.{_≢_, _⊎_, inl, inr}
-use mathlib.Core.Bool.{Bool, true, false, cond}
+use mathlib.Core.Path.{_≡_, refl, sym, ap, ap₂, _∙_}
+use mathlib.Core.Logic.{_≢_, inl, inr}
+use mathlib.Core.Bool.{Bool, true, cond}
 use mathlib.Core.List.{List, [], _∷_, _++_}
-use mathlib.Core.Option.{Option, none, some}
+use mathlib.Core.Option.{some}
 use native.Mathlib.Omega.{arith}
 use native.Mathlib.Nat.{mul-zero, mul-suc, zero-add}
 use borrow.Author.Tests.{ne-eqb, le-leb}
 use lib.ListN.{length, getElem?, length-append}
-use Rattle.step.specs.Kinds.{outputs, Output, out0, out1}
+use Rattle.step.specs.Kinds.{out0, out1}
 use Rattle.table.specs.Rows.{kindOf, size}
 use Rattle.structure.specs.Structure.{Structure}
 use Rattle.lowered.specs.Gathered.{gathered, those, each}
 use Rattle.lowered.specs.Roles.{Role, opNode, stream, gate, guard, copySplit, copyInvariant, carry, argSplit, Wire, start, output, sameWire}
-use Rattle.lowered.specs.Sources.{carried, isOp, isFor, isArgRow}
-use Rattle.lowered.specs.Lower.{carriedInto, copy, rowRoles, roles, roleKind, isStart, startRows, starts, roleOutputs, wires, wireNumber, startTotal}
+use Rattle.lowered.specs.Sources.{carried, isOp}
+use Rattle.lowered.specs.Lower.{carriedInto, copy, rowRoles, roles, isStart, startRows, starts, roleOutputs, wires, wireNumber, startTotal}
 use Rattle.laid.specs.Lists.{below-or-last, elem-left, elem-right, none-some, position-is}
 use Rattle.laid.specs.Indexed.{each-append}
 use Rattle.laid.specs.Listed.{wires-once, for-roles, arg-roles, op-roles}

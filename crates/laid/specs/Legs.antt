@@ -12,10 +12,10 @@
 -- belongs to one wire.
 -- Assumes nothing.
 use Prim.Native.Nat.{ℕ, zero, suc, _+_, _≤_, _<_}
-use mathlib.Core.Path.{_≡_, refl, sym, ap, ap₂, _∙_, subst}
+use mathlib.Core.Path.{_≡_, refl, ap, ap₂, _∙_, subst}
 use mathlib.Core.Logic.{_⊎_, inl, inr}
 use mathlib.Core.List.{List, [], _∷_, _++_}
-use mathlib.Core.Option.{Option, none, some}
+use mathlib.Core.Option.{Option, some}
 use native.Mathlib.Omega.{arith}
 use native.Mathlib.Decide.{ℕ-discrete}
 use borrow.Author.Tests.{eq-eqb, ne-eqb}
@@ -27,8 +27,8 @@ use Rattle.graph.specs.Graph.{Node}
 use Rattle.lowered.specs.Roles.{Wire, Use, sameWire, sameUse}
 use Rattle.lowered.specs.Sources.{source}
 use Rattle.lowered.specs.Lower.{wires, wireNumber, wireSort, uses, keepIf, readerOf, readersIn, users, forkRows, forkWires, legBy, legOf, freeAt, allForkWires, usersEach, plainWires, allUsers, standsBy, standsOn, forksFrom}
-use Rattle.laid.specs.Lists.{Among, Once, there, none-some, position-is}
-use Rattle.laid.specs.Listed.{wires-once, made-wire-is-listed}
+use Rattle.laid.specs.Lists.{Among, Once, position-is}
+use Rattle.laid.specs.Listed.{wires-once}
 use Rattle.laid.specs.Uses.{users-are, users-once}
 
 -- ---- numbers in a row

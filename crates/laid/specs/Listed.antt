@@ -6,17 +6,17 @@
 --   listed-wire-is-made, made-wire-is-listed, wires-once
 --
 -- Assumes nothing.
-use Prim.Native.Nat.{ℕ, zero, suc, _+_, _≤_, _<_}
+use Prim.Native.Nat.{ℕ, zero, suc, _<_}
 use mathlib.Core.Path.{_≡_, refl, sym, ap, _∙_, subst}
 use mathlib.Core.Logic.{_⊎_, inl, inr}
 use mathlib.Core.Bool.{Bool, true, false, cond, _&&_}
-use mathlib.Core.List.{List, [], _∷_, _++_}
+use mathlib.Core.List.{List, [], _∷_}
 use native.Mathlib.Omega.{arith}
 use borrow.Author.Tests.{eqb-true}
 use Rattle.step.specs.Kinds.{outputs, Output, out0, out1}
 use Rattle.graph.specs.Graph.{outputPlace}
 use Rattle.table.specs.Rows.{kindOf, size}
-use Rattle.lowered.specs.Gathered.{gathered, those, each}
+use Rattle.lowered.specs.Gathered.{those, each}
 use Rattle.lowered.specs.Roles.{Role, opNode, stream, gate, guard, copySplit, copyInvariant, carry, argSplit, Wire, start, output}
 use Rattle.lowered.specs.Sources.{carried, isOp, isFor, isArgRow, has}
 use Rattle.lowered.specs.Lower.{carriedInto, copy, rowRoles, roles, roleKind, isStart, startRows, starts, outputsBy, roleOutputs, wires}

@@ -9,26 +9,26 @@
 -- Assumes nothing.
 use Prim.Native.Nat.{ℕ, zero, suc, _+_, _≤_, _<_}
 use mathlib.Core.Path.{_≡_, refl, sym, ap, _∙_, subst}
-use mathlib.Core.Logic.{_≢_, _⊎_, inl, inr}
+use mathlib.Core.Logic.{_⊎_, inl, inr}
 use mathlib.Core.Bool.{Bool, true, false, cond, _&&_, _||_}
 use mathlib.Core.List.{List}
-use mathlib.Core.Option.{Option, none, some}
+use mathlib.Core.Option.{some}
 use native.Mathlib.Omega.{arith}
-use native.Mathlib.Decide.{ℕ-discrete, decLe}
-use borrow.Author.Tests.{eqb-true, eqb-false, eq-eqb, ne-eqb, le-leb, lt-leb, lt-ltb, le-ltb}
+use native.Mathlib.Decide.{decLe}
+use borrow.Author.Tests.{eqb-true, eq-eqb, ne-eqb, le-leb, lt-leb, lt-ltb, le-ltb}
 use lib.Dec.{eqb, leb}
 use Rattle.step.specs.Kinds.{Kind, OP, PICK, outputs, inputSort, operatorSort, Input, in0, in1, in2, Output, out0, out1}
 use Rattle.graph.specs.Graph.{hasInput}
 use Rattle.table.specs.Rows.{kindOf, word, size, operandCount, firstOperand, sortOf, wantedSort}
-use Rattle.table.specs.Scan.{bodyOf, reads, home}
-use Rattle.table.specs.Bodies.{operand, argOf, nextOf}
+use Rattle.table.specs.Scan.{bodyOf, home}
+use Rattle.table.specs.Bodies.{argOf, nextOf}
 use Rattle.structure.specs.Structure.{Structure}
 use Rattle.lowered.specs.Roles.{Role, opNode, stream, gate, guard, copySplit, copyInvariant, carry, argSplit, Wire, start, output, Use, into, result}
 use Rattle.lowered.specs.Sources.{carried, homeWire, valueWire, Feed, value, inner, nothing, named, isOp, isFor, isArgRow, has, roleFeed, feed, wireOf, source}
-use Rattle.lowered.specs.Lower.{roleKind, roleSort, isStart, wireSort, isOut, uses}
+use Rattle.lowered.specs.Lower.{roleKind, roleSort, wireSort, isOut, uses}
 use Rattle.laid.specs.Lists.{Among}
 use Rattle.laid.specs.Listed.{and-true, and-both, roleRow, roleValue, Real, Made}
-use Rattle.laid.specs.Uses.{listed-use-is, Read}
+use Rattle.laid.specs.Uses.{listed-use-is}
 use Rattle.laid.specs.Reached.{in-table, carried-by, Reached, operand-is-reached, copy-is-reached}
 
 -- an operator's sort is that of its value

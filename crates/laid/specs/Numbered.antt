@@ -7,12 +7,12 @@
 --   rows-fit
 --
 -- Assumes nothing.
-use Prim.Native.Nat.{ℕ, zero, suc, _+_, _*_, _≤_, _<_}
-use mathlib.Core.Path.{_≡_, refl, sym, ap, ap₂, _∙_, subst}
-use mathlib.Core.Logic.{_≢_, _⊎_, inl, inr}
+use Prim.Native.Nat.{ℕ, zero, suc, _+_, _<_}
+use mathlib.Core.Path.{_≡_, refl, sym, ap, _∙_, subst}
+use mathlib.Core.Logic.{inl, inr}
 use mathlib.Core.Bool.{Bool, true, false, cond}
 use mathlib.Core.List.{List, [], _∷_, _++_}
-use mathlib.Core.Option.{Option, none, some}
+use mathlib.Core.Option.{some}
 use native.Mathlib.Omega.{arith}
 use borrow.Author.Tests.{eqb-true}
 use lib.Dec.{eqb, leb, ltb}
@@ -21,17 +21,16 @@ use Rattle.word.specs.Words.{pick}
 use Rattle.step.specs.Kinds.{Kind, STREAM, GATE, CARRY, INVARIANT, SPLIT, OP, PICK, FORK, DRAIN, outputs, codes, ownSorts, inputSort, outputSort, Input, in0, in1, in2, Output, out0, out1}
 use Rattle.graph.specs.Below.{total}
 use Rattle.graph.specs.Graph.{absent, Node, hasInput, wireOn, outputCount, sortAt}
-use Rattle.table.specs.Rows.{kindOf, word, size, sortOf}
+use Rattle.table.specs.Rows.{kindOf, word, sortOf}
 use Rattle.structure.specs.Structure.{Structure}
 use Rattle.lowered.specs.Gathered.{each}
 use Rattle.lowered.specs.Roles.{Role, opNode, stream, gate, guard, copySplit, copyInvariant, carry, argSplit, Wire, start, output, Use, into}
-use Rattle.lowered.specs.Sources.{source}
 use Rattle.lowered.specs.Lower.{roles, roleKind, roleCode, roleSort, starts, outputsBy, roleOutputs, wires, wireSort, users, drainNode, forkNode, forkRows, forkWires, freeAt, allForkWires, usersEach, plainWires, allUsers, standsBy, standsOn, roleNode, nodesFrom, forksFrom, loweredNodes, wireTotal, loweredWords}
 use Rattle.laid.specs.Lists.{Among, in-range, none-some}
 use Rattle.laid.specs.Indexed.{total-first, sumOf, sum-append}
 use Rattle.laid.specs.Listed.{Real, listed-role-is-real}
 use Rattle.laid.specs.Uses.{node-use-is-listed}
-use Rattle.laid.specs.Made.{op-kind, op-is-OP, pick-is-PICK, node-source}
+use Rattle.laid.specs.Made.{op-kind, node-source}
 use Rattle.laid.specs.Taken.{present, missing, stands-below, free-high}
 use Rattle.laid.specs.Sorted.{wire-sorted, new-wire-sorted, stands-sorted}
 

@@ -11,17 +11,17 @@ use Prim.Native.Nat.{ℕ, zero, suc, _*_, _≤_, _<_}
 use mathlib.Core.Path.{_≡_, refl, sym, ap, _∙_, subst}
 use mathlib.Core.Logic.{_≢_, _⊎_, inl, inr}
 use mathlib.Core.Bool.{Bool, true, false, not, _&&_, _||_}
-use mathlib.Core.List.{List, []}
+use mathlib.Core.List.{List}
 use native.Mathlib.Omega.{arith}
 use native.Mathlib.Decide.{ℕ-discrete, decLt}
 use borrow.Author.Tests.{eqb-true, eqb-false, eq-eqb, ne-eqb}
 use lib.Dec.{eqb}
-use lib.ListN.{getD, List·getD-eq-default}
+use lib.ListN.{List·getD-eq-default}
 use Rattle.table.specs.Rows.{kindOf, size, operandCount}
 use Rattle.table.specs.Scan.{stackAt, bodyOf, reads, home, holds}
 use Rattle.table.specs.Bodies.{operand, endOf}
 use Rattle.structure.specs.Spans.{open-is-for, Encloses, same, inside as within, outermost}
-use Rattle.structure.specs.Structure.{Structure, InLoop}
+use Rattle.structure.specs.Structure.{Structure}
 use Rattle.lowered.specs.Gathered.{some?}
 use Rattle.lowered.specs.Sources.{inside, names, carried}
 use Rattle.laid.specs.Listed.{and-true, and-both, no-both}

@@ -7,7 +7,7 @@
 --   walked-is-carried, carried-is-walked      'carried into L' is: passed on the way of some operand
 --
 -- Assumes nothing.
-use Prim.Native.Nat.{ℕ, zero, suc, _+_, _≤_, _<_}
+use Prim.Native.Nat.{ℕ, zero, suc, _<_}
 use mathlib.Core.Path.{_≡_, refl, sym, ap, _∙_, subst}
 use mathlib.Core.Logic.{_≢_, _⊎_, inl, inr}
 use mathlib.Core.Bool.{Bool, true, false}
@@ -17,7 +17,7 @@ use native.Mathlib.Decide.{ℕ-discrete}
 use borrow.Author.Tests.{ne-eqb}
 use Rattle.table.specs.Rows.{kindOf, size, operandCount}
 use Rattle.table.specs.Scan.{Loop, oneArg, oneNext, atHead, after, inner, stackAt, bodyOf, reads, home, holds, outward}
-use Rattle.table.specs.Bodies.{operand, endOf}
+use Rattle.table.specs.Bodies.{operand}
 use Rattle.table.specs.Right.{TableRight}
 use Rattle.structure.specs.Loops.{innermost}
 use Rattle.structure.specs.Order.{nothing-left-open}
@@ -25,7 +25,7 @@ use Rattle.structure.specs.Spans.{open-is-for, Encloses, same, inside as within
 use Rattle.structure.specs.Structure.{Structure, InLoop}
 use Rattle.lowered.specs.Sources.{inside, carried}
 use Rattle.laid.specs.Listed.{no-both}
-use Rattle.laid.specs.Reached.{Carries, carried-by, carried-is, inside-cases, inside-at, inside-by, in-table, reads-loop}
+use Rattle.laid.specs.Reached.{carried-by, carried-is, inside-cases, inside-at, inside-by, in-table, reads-loop}
 
 -- ---- the body before each row
 pub body-first : (t : List ℕ) → bodyOf t 0 ≡ size t

@@ -6,20 +6,20 @@
 -- Assumes nothing.
 use Prim.Native.Nat.{ℕ, zero, suc, _+_, _-_, _≤_, _<_}
 use mathlib.Core.Path.{_≡_, refl, sym, ap, ap₂, _∙_, subst}
-use mathlib.Core.Logic.{_⊎_, inl, inr}
+use mathlib.Core.Logic.{inl, inr}
 use mathlib.Core.List.{List, [], _∷_, _++_, append-assoc}
-use mathlib.Core.Option.{Option, none, some}
+use mathlib.Core.Option.{some}
 use native.Mathlib.Omega.{arith}
-use lib.ListN.{length, getD, getElem?, take, replicate, length-append, List·getD-append, getD-replicate, length-replicate}
+use lib.ListN.{length, getD, getElem?, take, replicate, List·getD-append, getD-replicate, length-replicate}
 use lib.Seq.{getD-append-add}
-use Rattle.step.specs.Kinds.{outputs, outputSort, Output, out0, out1}
+use Rattle.step.specs.Kinds.{outputs, out0, out1}
 use Rattle.graph.specs.Below.{joined}
 use Rattle.graph.specs.Graph.{Node, nodeAt, outputSorts, wireSorts, sortAt}
 use Rattle.structure.specs.Structure.{Structure}
 use Rattle.lowered.specs.Gathered.{each}
 use Rattle.lowered.specs.Roles.{Role, Wire, start, output, Use}
 use Rattle.lowered.specs.Sources.{source}
-use Rattle.lowered.specs.Lower.{roles, roleKind, roleCode, roleSort, startRows, starts, outputsBy, roleOutputs, wires, wireNumber, wireSort, uses, users, forkRows, forkWires, freeAt, usersEach, plainWires, allUsers, standsOn, nodesFrom, forksFrom, loweredNodes, nodeTotal, startTotal, loweredWords}
+use Rattle.lowered.specs.Lower.{roles, roleKind, startRows, starts, outputsBy, roleOutputs, wires, wireNumber, wireSort, uses, users, forkRows, forkWires, freeAt, usersEach, plainWires, allUsers, standsOn, nodesFrom, forksFrom, loweredNodes, nodeTotal, startTotal, loweredWords}
 use Rattle.laid.specs.Lists.{Among, in-range, none-some}
 use Rattle.laid.specs.Indexed.{joined-same, joined-along, each-append}
 use Rattle.laid.specs.Uses.{users-has}

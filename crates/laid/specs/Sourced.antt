@@ -7,10 +7,10 @@
 -- Assumes nothing.
 use Prim.Native.Nat.{ℕ, zero, suc, _+_, _*_, _≤_, _<_}
 use mathlib.Core.Path.{_≡_, refl, sym, ap, ap₂, _∙_, subst}
-use mathlib.Core.Logic.{_≢_, _⊎_, inl, inr}
-use mathlib.Core.Bool.{Bool, true, false, cond, _&&_}
-use mathlib.Core.List.{List, [], _∷_, _++_, append-assoc}
-use mathlib.Core.Option.{Option, none, some}
+use mathlib.Core.Logic.{inl, inr}
+use mathlib.Core.Bool.{Bool, true, false, cond}
+use mathlib.Core.List.{List, [], _∷_, _++_}
+use mathlib.Core.Option.{Option}
 use native.Mathlib.Omega.{arith}
 use borrow.Author.Tests.{eqb-true}
 use lib.Dec.{eqb}
@@ -19,11 +19,11 @@ use Rattle.table.specs.Rows.{kindOf, size}
 use Rattle.table.specs.Scan.{bodyOf, reads}
 use Rattle.table.specs.Bodies.{operand, nextOf}
 use Rattle.structure.specs.Structure.{Structure}
-use Rattle.lowered.specs.Gathered.{gathered, those, each}
+use Rattle.lowered.specs.Gathered.{gathered, each}
 use Rattle.lowered.specs.Roles.{Role, opNode, stream, gate, guard, copySplit, copyInvariant, carry, argSplit, Wire, output, Use, into, result}
 use Rattle.lowered.specs.Sources.{carried, Feed, value, inner, nothing, named, isOp, isFor, isArgRow, wireOf, source, roleFeed}
 use Rattle.lowered.specs.Lower.{carriedInto, copy, rowRoles, roles, wireNumber, taken, useIf, roleUses, isOut, outRows, uses}
-use Rattle.laid.specs.Lists.{Among, gathered-has, those-from, among-left, among-right}
+use Rattle.laid.specs.Lists.{Among, gathered-has, those-from}
 use Rattle.laid.specs.Indexed.{each-append}
 use Rattle.laid.specs.Listed.{Real, listed-role-is-real, for-roles, arg-roles, op-roles}
 use Rattle.laid.specs.Made.{Fine, node-input-is-fine, result-is-fine, node-feed, result-feed}

@@ -5,26 +5,26 @@
 --
 -- Assumes nothing.
 use Prim.Native.Nat.{ℕ, zero, suc, _+_, _≤_, _<_}
-use mathlib.Core.Path.{_≡_, refl, sym, ap, ap₂, _∙_, subst}
-use mathlib.Core.Logic.{_⊎_, inl, inr}
+use mathlib.Core.Path.{_≡_, refl, sym, ap, ap₂, _∙_}
+use mathlib.Core.Logic.{inl, inr}
 use mathlib.Core.Bool.{Bool, true, false}
-use mathlib.Core.List.{List, [], _∷_, _++_, append-assoc}
+use mathlib.Core.List.{List, [], _∷_, _++_}
 use mathlib.Core.Option.{Option, none, some}
 use native.Mathlib.Omega.{arith}
 use lib.ListN.{length, getElem?}
 use Rattle.word.specs.Words.{pick}
 use Rattle.step.specs.Kinds.{outputs, Input, in0, in1, in2}
 use Rattle.graph.specs.Below.{joined, times, times-append}
-use Rattle.graph.specs.Graph.{Node, nodeAt, nodeCount, resultCount, resultAt, hasInput, inputOf, listed, nodeReads, results, reads}
+use Rattle.graph.specs.Graph.{Node, nodeAt, resultAt, hasInput, listed, nodeReads, results, reads}
 use Rattle.table.specs.Rows.{size}
 use Rattle.structure.specs.Structure.{Structure}
-use Rattle.lowered.specs.Gathered.{each, those}
+use Rattle.lowered.specs.Gathered.{each}
 use Rattle.lowered.specs.Roles.{Role, Wire, Use, into, result, sameWire}
-use Rattle.lowered.specs.Sources.{Feed, value, inner, nothing, has, roleFeed, named, wireOf, source}
-use Rattle.lowered.specs.Lower.{roles, roleKind, wires, wireNumber, wireSort, taken, useIf, roleUses, isOut, outRows, uses, users, forkRows, forkWires, legOf, freeAt, allForkWires, usersEach, plainWires, allUsers, starts, standsOn, roleNode, nodesFrom, forksFrom, loweredNodes, nodeTotal, wireTotal, resultTotal, loweredWords}
+use Rattle.lowered.specs.Sources.{Feed, value, inner, nothing, roleFeed, wireOf, source}
+use Rattle.lowered.specs.Lower.{roles, roleKind, wires, wireNumber, wireSort, taken, useIf, roleUses, isOut, outRows, uses, users, forkRows, forkWires, freeAt, allForkWires, usersEach, plainWires, allUsers, starts, standsOn, roleNode, nodesFrom, forksFrom, loweredNodes, nodeTotal, wireTotal, resultTotal, loweredWords}
 use Rattle.laid.specs.Lists.{Among, those-from, at-position, there, in-range, has-elem, none-some}
 use Rattle.laid.specs.Indexed.{joined-same, joined-along, each-append}
-use Rattle.laid.specs.Listed.{Real, Made, listed-role-is-real, made-wire-is-listed, wires-once}
+use Rattle.laid.specs.Listed.{Real, listed-role-is-real, made-wire-is-listed}
 use Rattle.laid.specs.Uses.{listed-use-reads, users-has}
 use Rattle.laid.specs.Made.{isFed, takes-where-it-has-a-place, node-feed, result-feed, source-is-made}
 use Rattle.laid.specs.Legs.{standing, taking, taking-append, leg-is-new, stands-by-wire, each-wire-is-taken-once}

@@ -7,26 +7,24 @@
 --
 -- Assumes nothing.
 use Prim.Native.Nat.{ℕ, zero, suc, _+_, _*_, _≤_, _<_}
-use mathlib.Core.Path.{_≡_, refl, sym, ap, ap₂, _∙_, subst}
-use mathlib.Core.Logic.{_≢_, _⊎_, inl, inr}
+use mathlib.Core.Path.{_≡_, refl, ap, _∙_}
+use mathlib.Core.Logic.{_⊎_, inl, inr}
 use mathlib.Core.Bool.{Bool, true, false, cond}
-use mathlib.Core.List.{List, [], _∷_, _++_}
-use mathlib.Core.Option.{Option, none, some}
+use mathlib.Core.List.{List}
 use native.Mathlib.Omega.{arith}
-use borrow.Author.Tests.{eq-eqb, eqb-true, eqb-false, ne-eqb, le-leb}
+use borrow.Author.Tests.{eqb-false}
 use lib.Dec.{eqb, leb}
-use Rattle.step.specs.Kinds.{Input, in0, in1, in2, out0, out1}
+use Rattle.step.specs.Kinds.{out0}
 use Rattle.table.specs.Rows.{kindOf, size}
-use Rattle.table.specs.Scan.{bodyOf, reads, home}
-use Rattle.table.specs.Bodies.{operand, argOf, nextOf}
+use Rattle.table.specs.Scan.{home}
+use Rattle.table.specs.Bodies.{argOf}
 use Rattle.structure.specs.Structure.{Structure}
-use Rattle.lowered.specs.Roles.{Role, opNode, stream, gate, guard, copySplit, copyInvariant, carry, argSplit, Wire, start, output, Use, into, result}
-use Rattle.lowered.specs.Sources.{carried, homeWire, valueWire, Feed, value, inner, nothing, named, isOp, wireOf, source, roleFeed}
+use Rattle.lowered.specs.Roles.{copyInvariant, output}
+use Rattle.lowered.specs.Sources.{homeWire, valueWire, isOp}
 use Rattle.lowered.specs.Lower.{wireNumber}
-use Rattle.laid.specs.Made.{home-of-start, home-of-op, home-of-for, home-of-arg, home-of-next, node-feed, result-feed}
+use Rattle.laid.specs.Made.{home-of-start, home-of-op, home-of-for, home-of-arg, home-of-next}
 use Rattle.laid.specs.Reached.{in-table, Reached}
 use Rattle.laid.specs.Bases.{wireBase, copyPlace, start-number, op-number, gate-number, arg-number, copy-number}
-use Rattle.laid.specs.Counts.{numberOf, sourceNumber}
 
 -- INPUT, CONST: the row; OP, PICK: the row's first; FOR: the third; ARG: the second; NEXT: the third of its ARG
 unfoldable pub homeNumber : List ℕ → ℕ → ℕ

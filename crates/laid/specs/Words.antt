@@ -6,20 +6,19 @@
 --   words-long        the length is 4 + 2S + R + 7n
 --
 -- Assumes nothing.
-use Prim.Native.Nat.{ℕ, zero, suc, _+_, _*_, _≤_, _<_}
+use Prim.Native.Nat.{ℕ, suc, _+_, _*_, _<_}
 use mathlib.Core.Path.{_≡_, refl, sym, ap, ap₂, _∙_}
 use mathlib.Core.Bool.{Bool, true, false, cond}
 use mathlib.Core.List.{List, [], _∷_, _++_}
-use mathlib.Core.Option.{Option, none, some}
+use mathlib.Core.Option.{some}
 use native.Mathlib.Omega.{arith}
 use borrow.Author.Tests.{lt-ltb}
-use lib.Dec.{eqb, ltb}
+use lib.Dec.{eqb}
 use lib.ListN.{length, getD, getElem?, length-append, List·getD-append}
 use lib.Seq.{getD-append-add}
-use Rattle.word.specs.Words.{pick}
 use Rattle.step.specs.Kinds.{Kind, STREAM, GATE, CARRY, INVARIANT, SPLIT, FORK, DRAIN, OP, PICK, outputs}
 use Rattle.step.specs.Kinds
-use Rattle.graph.specs.Graph.{nodeCount, wireCount, startCount, resultCount, startKindAt, startWordAt, resultAt, rowPlace, Node, nodeOf, rowAt, nodeAt}
+use Rattle.graph.specs.Graph.{nodeCount, wireCount, startCount, resultCount, startKindAt, startWordAt, resultAt, rowPlace, Node, rowAt, nodeAt}
 use Rattle.table.specs.Rows.{kindOf}
 use Rattle.lowered.specs.Gathered.{each}
 use Rattle.lowered.specs.Roles.{Role, Wire, Use, result}

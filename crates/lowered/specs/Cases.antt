@@ -23,7 +23,7 @@ use Rattle.lowered.specs.Gathered.{gathered, those, some?, each, positio
 use Rattle.lowered.specs.Roles.{sameRole, sameOutput, sameInput, sameWire, sameUse}
 use Rattle.lowered.specs.Sources.{inside, names, carried, homeWire, valueWire, feed, source}
 use Rattle.lowered.specs.Lower.{carriedInto, rowRoles, roles, startRows, starts, wires, wireNumber, outRows, uses, readersIn, users, legOf, plainNodes, plainWires, allUsers, standsOn, loweredNodes, nodeTotal, wireTotal, startTotal, resultTotal, loweredWords}
-use Rattle.lowered.specs.Room.{ROOM, hasRoom, fitsInto, refusedBy, checkAnswer, lowerRefusal, Lowered, lowerAnswer, lentAfter}
+use Rattle.lowered.specs.Room.{ROOM, hasRoom, fitsInto, refusedBy, checkAnswer, lowerRefusal, lowerAnswer, lentAfter}
 
 -- everything that lowering computes with
 unfoldable pub lowering-computes : ℕ

@@ -7,15 +7,15 @@
 --
 -- Assumes nothing.
 use Prim.Native.Nat.{ℕ, zero, suc, _+_, _*_}
-use mathlib.Core.Bool.{Bool, true, false, cond, _||_}
+use mathlib.Core.Bool.{Bool, cond}
 use mathlib.Core.List.{List, [], _∷_, _++_}
 use mathlib.Core.Option.{Option, none, some}
 use lib.Dec.{eqb, leb}
 use lib.ListN.{length}
-use Rattle.step.specs.Kinds.{Kind, STREAM, GATE, CARRY, INVARIANT, SPLIT, FORK, DRAIN, OP, PICK, outputs, outputSort, Input, in0, in1, in2, Output, out0, out1}
+use Rattle.step.specs.Kinds.{Kind, STREAM, GATE, CARRY, INVARIANT, SPLIT, FORK, DRAIN, OP, PICK, outputs, outputSort, in0, in1, in2, out0, out1}
 use Rattle.graph.specs.Graph.{Node, absent}
 use Rattle.table.specs.Rows
-use Rattle.table.specs.Rows.{kindOf, word, size, sortOf, INPUT, CONST, FOR, ARG, OUT}
+use Rattle.table.specs.Rows.{kindOf, word, size, sortOf, INPUT, CONST, OUT}
 use Rattle.lowered.specs.Gathered.{gathered, those, each, position}
 use Rattle.lowered.specs.Roles.{Role, opNode, stream, gate, guard, copySplit, copyInvariant, carry, argSplit, Wire, start, output, Use, into, result, sameWire, sameUse}
 use Rattle.lowered.specs.Sources.{carried, isOp, isFor, isArgRow, source}

@@ -8,11 +8,11 @@
 -- A body is named by its FOR row, the outermost one by the row count.
 -- Assumes nothing.
 use Prim.Native.Nat.{ℕ}
-use mathlib.Core.Bool.{Bool, true, false, cond, not, _&&_, _||_}
+use mathlib.Core.Bool.{Bool, cond, not, _&&_, _||_}
 use mathlib.Core.List.{List}
 use mathlib.Core.Option.{Option, none, some}
 use lib.Dec.{eqb, leb}
-use Rattle.step.specs.Kinds.{Input, in0, in1, in2, Output, out0, out1}
+use Rattle.step.specs.Kinds.{Input, in0, in1, in2, out0, out1}
 use Rattle.table.specs.Rows.{kindOf, size, operandCount, CONST, OP, PICK, FOR, ARG, OUT}
 use Rattle.table.specs.Scan.{stackAt, bodyOf, reads, home, holds}
 use Rattle.table.specs.Bodies.{operand, argOf, nextOf}

@@ -9,21 +9,20 @@
 --   ready-results, ready-rows, ready-forks        each part written is the graph's
 --
 -- Assumes nothing.
-use Prim.Native.Nat.{ℕ, zero, suc, _+_, _-_, _*_, _<_, _≤_}
+use Prim.Native.Nat.{ℕ, _+_, _-_, _*_, _<_, _≤_}
 use mathlib.Core.Path.{_≡_, sym, ap, ap₂, _∙_}
 use mathlib.Core.Logic.{_⊎_, inl, inr}
-use mathlib.Core.Bool.{Bool, true, false, cond}
+use mathlib.Core.Bool.{Bool, true}
 use mathlib.Core.List.{List, [], _∷_, _++_}
 use mathlib.Core.Option.{some}
 use native.Mathlib.Omega.{arith}
 use borrow.Author.Tests.{eq-eqb, ne-eqb}
-use lib.ListN.{length, getD, getElem?, length-append}
+use lib.ListN.{getD, getElem?}
 use Rattle.step.specs.Kinds.{in0, in1, in2}
 use Rattle.graph.specs.Below.{joined, total, times, times-append}
 use Rattle.graph.specs.Graph.{absent}
 use Rattle.table.specs.Rows.{size}
 use Rattle.structure.specs.Structure.{Structure}
-use Rattle.lowered.specs.Gathered.{those}
 use Rattle.lowered.specs.Roles.{result}
 use Rattle.lowered.specs.Lower.{roles, isStart, startRows, isOut, outRows, plainNodes, plainWires, nodeTotal, wireTotal, startTotal, resultTotal}
 use Rattle.lowered.specs.Room.{hasRoom}

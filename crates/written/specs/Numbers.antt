@@ -8,26 +8,25 @@
 --   input-below, out-below    sources are wires
 --
 -- Assumes nothing.
-use Prim.Native.Nat.{ℕ, zero, suc, _+_, _-_, _*_, _≤_, _<_}
+use Prim.Native.Nat.{ℕ, zero, suc, _+_, _-_, _≤_, _<_}
 use mathlib.Core.Path.{_≡_, refl, sym, ap, ap₂, _∙_, subst}
 use mathlib.Core.Logic.{_≢_, _⊎_, inl, inr}
-use mathlib.Core.Bool.{Bool, true, false, cond}
+use mathlib.Core.Bool.{Bool, cond}
 use mathlib.Core.List.{List, [], _∷_, _++_, append-assoc, append-nil}
 use mathlib.Core.Option.{Option, none, some}
 use native.Mathlib.Omega.{arith}
 use borrow.Author.Tests.{eq-eqb, ne-eqb}
 use lib.Dec.{eqb}
-use lib.ListN.{length, getElem?, length-append}
+use lib.ListN.{length, getElem?}
 use Rattle.word.specs.Words.{flag}
 use Rattle.step.specs.Kinds.{Input, in0, in1, in2}
 use Rattle.graph.specs.Graph.{absent}
 use Rattle.graph.specs.Below.{joined, total, times, times-append}
-use Rattle.table.specs.Rows.{size}
 use Rattle.structure.specs.Structure.{Structure}
 use Rattle.lowered.specs.Gathered.{each}
 use Rattle.lowered.specs.Roles.{Role, Wire, Use, into, result}
-use Rattle.lowered.specs.Sources.{source, named, wireOf}
-use Rattle.lowered.specs.Lower.{roles, wires, wireNumber, taken, useIf, roleUses, isOut, outRows, uses, plainNodes, plainWires, standsBy, standsOn, resultTotal}
+use Rattle.lowered.specs.Sources.{source}
+use Rattle.lowered.specs.Lower.{roles, wires, wireNumber, taken, useIf, roleUses, outRows, uses, plainNodes, plainWires, standsBy, standsOn, resultTotal}
 use Rattle.laid.specs.Lists.{Among, there, among-left, among-right, has-elem, elem-left, in-range, none-some}
 use Rattle.laid.specs.Indexed.{sumOf, each-append, joined-along, joined-same, total-along, total-same}
 use Rattle.laid.specs.Made.{result-feed}

@@ -7,28 +7,28 @@
 --   all-right                 where the nodes of all rows and of all carried values are right, every row is
 --
 -- Assumes nothing.
-use Prim.Native.Nat.{ℕ, zero, suc, _+_, _*_, _≤_, _<_}
-use mathlib.Core.Path.{_≡_, refl, sym, ap, ap₂, _∙_, subst}
-use mathlib.Core.Logic.{_⊎_, inl, inr}
-use mathlib.Core.Bool.{Bool, true, false, cond, _&&_}
+use Prim.Native.Nat.{ℕ, zero, suc, _+_, _*_, _<_}
+use mathlib.Core.Path.{_≡_, refl, sym, ap, _∙_, subst}
+use mathlib.Core.Logic.{inl, inr}
+use mathlib.Core.Bool.{true, cond, _&&_}
 use mathlib.Core.List.{List, [], _∷_, _++_}
-use mathlib.Core.Option.{Option, none, some}
+use mathlib.Core.Option.{some}
 use native.Mathlib.Omega.{arith}
-use borrow.Author.Tests.{eq-eqb, eqb-true}
+use borrow.Author.Tests.{eqb-true}
 use lib.Dec.{eqb}
 use lib.ListN.{length, getElem?}
-use Rattle.step.specs.Kinds.{Kind, STREAM, GATE, CARRY, INVARIANT, SPLIT, OP, PICK, Input, in0, in1, in2, out0, out1}
+use Rattle.step.specs.Kinds.{Kind, STREAM, GATE, CARRY, INVARIANT, SPLIT, OP, PICK, Input, in0, in1, in2, out0}
 use Rattle.graph.specs.Graph.{Node, absent}
 use Rattle.table.specs.Rows.{kindOf, word, size, sortOf}
 use Rattle.table.specs.Scan.{bodyOf, reads}
-use Rattle.table.specs.Bodies.{operand, nextOf}
+use Rattle.table.specs.Bodies.{nextOf}
 use Rattle.structure.specs.Structure.{Structure}
 use Rattle.lowered.specs.Gathered.{gathered, those, each}
-use Rattle.lowered.specs.Roles.{Role, opNode, stream, gate, guard, copySplit, copyInvariant, carry, argSplit, Wire, output, into, result, sameRole}
-use Rattle.lowered.specs.Sources.{carried, Feed, value, inner, nothing, isOp, isFor, isArgRow, has, wireOf, source, roleFeed}
+use Rattle.lowered.specs.Roles.{Role, opNode, stream, gate, guard, copySplit, copyInvariant, carry, argSplit, output, sameRole}
+use Rattle.lowered.specs.Sources.{carried, Feed, value, inner, nothing, isOp, isFor, wireOf, roleFeed}
 use Rattle.lowered.specs.Lower.{carriedInto, copy, rowRoles, roles, roleKind, wireNumber}
-use Rattle.laid.specs.Lists.{Among, there, below-or-last, elem-left, elem-right, position-is, none-some}
-use Rattle.laid.specs.Listed.{Real, roles-once, listed-role-is-real, for-roles, arg-roles, op-roles, and-both, and-true}
+use Rattle.laid.specs.Lists.{there, below-or-last, elem-left, elem-right, position-is}
+use Rattle.laid.specs.Listed.{Real, roles-once, listed-role-is-real, for-roles, arg-roles, op-roles, and-both}
 use Rattle.laid.specs.Made.{Fine, node-input-is-fine, node-feed, op-is-OP, pick-is-PICK}
 use Rattle.laid.specs.Bases.{nodeBase, wireBase, copyPlace, those-at, piece-at, op-number, stream-number, gate-number, guard-number, copy-number, carry-number, arg-number}
 use Rattle.laid.specs.Wired.{valueNumber, value-by-number}

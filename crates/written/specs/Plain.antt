@@ -6,9 +6,9 @@
 --   Laid, Outs            rows hold every node before forks; words hold the sources of the results
 --
 -- Assumes nothing.
-use Prim.Native.Nat.{ℕ, _+_, _*_, _<_}
+use Prim.Native.Nat.{ℕ, _+_, _*_}
 use mathlib.Core.Path.{_≡_}
-use mathlib.Core.List.{List, [], _∷_}
+use mathlib.Core.List.{List}
 use mathlib.Core.Option.{Option, none, some}
 use lib.ListN.{length, getD, getElem?}
 use Rattle.step.specs.Kinds.{Input, in0, in1, in2, out0}

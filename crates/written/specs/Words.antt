@@ -9,30 +9,30 @@
 --
 -- Assumes nothing.
 use Prim.Native.Nat.{ℕ, zero, suc, _+_, _-_, _*_, _≤_, _<_}
-use mathlib.Core.Path.{_≡_, refl, sym, ap, ap₂, _∙_, subst}
-use mathlib.Core.Logic.{_≢_, _⊎_, inl, inr}
+use mathlib.Core.Path.{_≡_, refl, sym, ap, ap₂, _∙_}
+use mathlib.Core.Logic.{_⊎_, inl, inr}
 use mathlib.Core.Bool.{Bool, true, false, cond}
-use mathlib.Core.List.{List, [], _∷_, _++_, append-assoc}
+use mathlib.Core.List.{List, [], _∷_, _++_}
 use mathlib.Core.Option.{Option, none, some}
 use native.Mathlib.Omega.{arith}
 use native.Mathlib.Decide.{ℕ-discrete}
 use borrow.Author.Tests.{le-leb, leb-true}
-use lib.Dec.{eqb, leb}
+use lib.Dec.{eqb}
 use lib.ListN.{length, getElem?, length-append}
-use Rattle.step.specs.Kinds.{Kind, STREAM, GATE, CARRY, INVARIANT, SPLIT, FORK, DRAIN, OP, PICK, outputs, outputSort, Output, out0, out1}
+use Rattle.step.specs.Kinds.{Kind, STREAM, GATE, CARRY, INVARIANT, SPLIT, FORK, DRAIN, OP, PICK, outputs, outputSort, out0, out1}
 use Rattle.graph.specs.Below.{joined, total}
 use Rattle.graph.specs.Graph.{Node}
 use Rattle.table.specs.Rows.{kindOf, size}
 use Rattle.structure.specs.Structure.{Structure}
-use Rattle.lowered.specs.Gathered.{those, each, position}
+use Rattle.lowered.specs.Gathered.{those, each}
 use Rattle.lowered.specs.Roles.{Role, opNode, stream, gate, guard, copySplit, copyInvariant, carry, argSplit, Wire, start, output, Use, result, sameWire}
 use Rattle.lowered.specs.Lower.{roles, roleKind, roleCode, roleSort, isStart, startRows, starts, outputsBy, roleOutputs, wires, wireNumber, wireSort, users, outRows, drainNode, forkNode, forkRows, forkWires, plainNodes, plainWires, standsOn, roleNode, nodesFrom, forksFrom, loweredNodes, startWords, nodeWords, nodeTotal, wireTotal, startTotal, resultTotal, loweredWords}
-use Rattle.laid.specs.Lists.{Among, Once, there, has-elem, elem-left, elem-right, in-range, none-some, position-is, those-from, those-once}
-use Rattle.laid.specs.Indexed.{sumOf, each-append, joined-along, joined-same, joined-first, total-along, total-same}
+use Rattle.laid.specs.Lists.{there, has-elem, elem-left, elem-right, position-is, those-from, those-once}
+use Rattle.laid.specs.Indexed.{sumOf, each-append, joined-along, joined-same, joined-first, total-along}
 use Rattle.laid.specs.Listed.{wires-once}
 use Rattle.laid.specs.Counts.{forkSum, fork-wires-by-number, users-are-counted}
 use Rattle.laid.specs.Bases.{starts-long, all-starts, those-at}
-use Rattle.written.specs.Numbers.{Cut, cut, in-front, total-before, useCount, freeFrom}
+use Rattle.written.specs.Numbers.{cut, in-front, total-before, useCount, freeFrom}
 
 -- ---- outputs, node by node
 abbrev pub outputsOf : List ℕ → Option Role → ℕ
