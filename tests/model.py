@@ -631,10 +631,10 @@ def nested(depth):
     return table([CONST, 0], [CONST, 1], [CONST, 2], *[[FOR, 0, 1, 2, 0, 0]] * depth, *[[END]] * depth, [OUT, 0])
 
 
-def wide(values):
-    """Eight loops in each other, and so many constants that are added up in the innermost."""
-    first = values + 8
-    rows = [[CONST, k] for k in range(values)] + [[FOR, 0, 1, 2, 0, 0]] * 8 + [[ROW_OP, 0, 0, 1]]
+def wide(values, unused=0):
+    """Eight loops in each other, so many constants that are added up in the innermost, and inputs that nothing uses, a node for each."""
+    first = values + unused + 8
+    rows = [[CONST, k] for k in range(values)] + [[INPUT]] * unused + [[FOR, 0, 1, 2, 0, 0]] * 8 + [[ROW_OP, 0, 0, 1]]
     rows += [[ROW_OP, 0, first + k - 2, k] for k in range(2, values)]
     return table(*rows, *[[END]] * 8, [OUT, 0])
 
@@ -668,14 +668,15 @@ def lowering_cases():
     yield check('1: no rows', [])
     yield check('1: a word short', SUM_TABLE[:-1])
     yield low('1: a word short, lent words as they were', 3, SUM_TABLE[:-1])
-    yield check('a table of the largest graph but a little', wide(160))
-    yield check('10: a graph of over 4,096 nodes', wide(240))
-    yield low('10: a graph of over 4,096 nodes, lent words as they were', 3, wide(240))
-    bad = {2: row(SUM_TABLE, 5, 9), 3: row(SUM_TABLE, 7, END, 1), 4: row(SUM_TABLE, 5, ROW_OP, 8), 5: row(SUM_TABLE, 4, NEXT, 1), 7: row(SUM_TABLE, 5, ROW_OP, 0, 6),
-           8: row(flags, 5, ROW_PICK, 1), 9: SUM_TABLE[:-6]}
-    for number, words in bad.items():
-        yield check(f'{number}', words)
-        yield low(f'{number}, lent words as they were', 3, words)
+    yield check('a graph of 4,096 nodes', wide(98, 21))
+    yield check('10: a graph of 4,097 nodes', wide(98, 22))
+    yield low('10: a graph of 4,097 nodes, lent words as they were', 3, wide(98, 22))
+    yield check('10: a table of 496 rows, 9,897 nodes', wide(240))
+    for what, words in (('2: a kind of 9', row(SUM_TABLE, 5, 9)), ('3: END with a word', row(SUM_TABLE, 7, END, 1)), ('4: an operator of 8', row(SUM_TABLE, 5, ROW_OP, 8)),
+                        ('5: NEXT behind FOR', row(SUM_TABLE, 4, NEXT, 1)), ('7: a row further down', row(SUM_TABLE, 5, ROW_OP, 0, 6)),
+                        ('8: PICK by a word', row(flags, 5, ROW_PICK, 1)), ('9: a table without its OUT', SUM_TABLE[:-6])):
+        yield check(what, words)
+        yield low(f'{what}, lent words as they were', 3, words)
     yield check('4: an update of 6', row(SUM_TABLE, 3, FOR, 1, 2, 0, 6))
     yield check('4: a condition of 5', row(SUM_TABLE, 3, FOR, 1, 2, 0, 0, 5))
     yield check('5: END before all NEXTs', row(SUM_TABLE, 6, END, 0))
