@@ -103,7 +103,9 @@ fn read_file(path: &[u8], text: &mut [u8], words: &mut [u32]) -> Got
 {
     let fd = os::open_read(path);
     if fd < 0 {
-        return nothing_read(path, b"the file cannot be opened");
+        let none = nothing_read(path, b"the file cannot be opened");
+        usage();
+        return none;
     }
     read_opened(path, fd, text, words)
 }
@@ -378,6 +380,7 @@ fn start(name: &[u8]) {
     }
     let command = command_of(name);
     if command == 0 {
+        complain(name, b"there is no such command");
         usage();
         return;
     }
