@@ -1,18 +1,18 @@
 -- How the code goes down the rows: the laws of the scan in the code's terms. Assumes nothing.
-use Prim.Native.Nat.{ℕ, suc, _+_, _≤_, _<_}
-use mathlib.Core.Path.{_≡_, refl, sym, ap, _∙_, subst}
-use mathlib.Core.Logic.{_≢_, _⊎_, inl, inr}
+use Prim.Native.Nat.{ℕ, _+_, _≤_, _<_}
+use mathlib.Core.Path.{_≡_, sym, ap, _∙_}
+use mathlib.Core.Logic.{_≢_}
 use mathlib.Core.List.{List}
 use native.Mathlib.Omega.{arith}
 use native.Mathlib.Numerals.{add-one}
 use native.Mathlib.Decide.{ℕ-discrete}
 use lib.ListN.{length, getD, set, length-set}
 use lib.Seq.{getD-set-same, getD-set-other}
-use Rattle.table.specs.Rows.{kindOf, size}
+use Rattle.table.specs.Rows.{kindOf}
 use Rattle.table.specs.Scan.{bodyOf, home, reads}
 use Rattle.structure.specs.Operands.{home-here}
 use Rattle.structure.specs.Structure.{Structure, right-table-has-structure}
-use Rattle.laid.specs.Scanned.{body-first, body-after-for, body-after-end, body-after-other}
+use Rattle.laid.specs.Scanned.{body-after-for, body-after-end, body-after-other}
 use Rattle.carrying.specs.Kept.{Passing, Bodies}
 
 module _ (t : List ℕ) (n : ℕ) (p : Passing t n) where

@@ -1,11 +1,15 @@
 // Lowering on lent words: what the entries keep of a table that has passed refusals 1 to 9.
 ghost use mathlib.Core.Path.{_≡_};
-ghost use Prim.Native.Nat.{_+_, _*_, _<_, _≤_};
+ghost use Prim.Native.Nat.{ℕ, _+_, _*_, _<_, _≤_};
+ghost use lib.Dec.{eqb, leb};
 ghost use lib.ListN.{length, getD};
-ghost use Rattle.table.specs.Rows.{kindOf, word, size, operandCount, firstOperand};
-ghost use Rattle.table.specs.Bodies.{operand};
+ghost use Rattle.word.specs.Words.{flag};
+ghost use Rattle.table.specs.Rows.{kindOf, word, size, operandCount, firstOperand, sortOf};
+ghost use Rattle.table.specs.Bodies.{operand, argOf};
 ghost use Rattle.table.specs.Scan.{bodyOf, home, reads};
-ghost use Rattle.carrying.specs.Kept.{Passing, Bodies, markPlace, OnTheWay, Marks, RowMarks, Marked};
+ghost use Rattle.lowered.specs.Lower.{startTotal, resultTotal, plainNodes, plainWires};
+ghost use Rattle.laid.specs.Bases.{nodeBase, wireBase};
+ghost use Rattle.carrying.specs.Kept.{Passing, Bodies, Pairs, PairsBefore, Uses, Counted, Bases, Low, homeFrom};
 
 // The kinds of rows.
 const CONST: u32 = 1;
@@ -24,15 +28,39 @@ const END: u32 = 7;
 
 const OUT: u32 = 8;
 
-fn kind_at(table: &[u32], r: u32) -> u32
+// The first code of an operator that gives a flag.
+const CONDITIONS: u32 = 3;
+
+pub fn kind_at(table: &[u32], r: u32) -> u32
     requires { ⌜ (r < size (now table)) × (r < 512) ⌝ }
     ensures { λ k. ⌜ k ≡ kindOf (now (table .entry)) r ⌝ }
 {
     table[(6 * r) as usize]
 }
 
+pub fn word_at(table: &[u32], r: u32, k: u32) -> u32
+    requires { ⌜ (r < size (now table)) × (r < 512) × (k < 6) ⌝ }
+    ensures { λ w. ⌜ w ≡ word (now (table .entry)) r k ⌝ }
+{
+    table[(6 * r + k) as usize]
+}
+
+// The sort of row v's value: 1 for a condition's flag, else 0.
+pub fn sort_at(table: &[u32], v: u32) -> u32
+    requires { ⌜ (v < size (now table)) × (v < 512) ⌝ }
+    ensures { λ s. ⌜ s ≡ sortOf (now (table .entry)) v ⌝ }
+{
+    if kind_at(table, v) == OP {
+        if word_at(table, v, 1) >= CONDITIONS {
+            return 1;
+        }
+        return 0;
+    }
+    0
+}
+
 // How many values a row of this kind names.
-fn operand_count(kind: u32) -> u32
+pub fn operand_count(kind: u32) -> u32
     ensures { λ r. ⌜ (r ≡ operandCount kind) × (r ≤ 3) ⌝ }
 {
     match kind {
@@ -53,7 +81,7 @@ fn first_operand(kind: u32) -> u32
 }
 
 // The j-th operand of row r.
-fn operand_at(table: &[u32], r: u32, j: u32) -> u32
+pub fn operand_at(table: &[u32], r: u32, j: u32) -> u32
     requires { ⌜ (r < size (now table)) × (r < 512) × (j < 3) ⌝ }
     ensures { λ w. ⌜ w ≡ operand (now (table .entry)) r j ⌝ }
 {
@@ -61,11 +89,12 @@ fn operand_at(table: &[u32], r: u32, j: u32) -> u32
     table[(6 * r + k) as usize]
 }
 
-fn body_at(bodies: &[u32; 512], r: u32) -> u32
+// What is noted of row r.
+pub fn noted_at(notes: &[u32; 512], r: u32) -> u32
     requires { ⌜ r < 512 ⌝ }
-    ensures { λ b. ⌜ b ≡ getD (now (bodies .entry)) r 0 ⌝ }
+    ensures { λ w. ⌜ w ≡ getD (now (notes .entry)) r 0 ⌝ }
 {
-    bodies[r as usize]
+    notes[r as usize]
 }
 
 // The body before the row behind r: a FOR opens its own, an END leads back to the one around, every other row stays.
@@ -78,13 +107,13 @@ fn body_after(table: &[u32], n: u32, bodies: &[u32; 512], r: u32, b: u32) -> u32
         return r;
     }
     if kind == END {
-        return body_at(bodies, b);
+        return noted_at(bodies, b);
     }
     b
 }
 
 // The body before each row.
-fn note_bodies(table: &[u32], n: u32) -> [u32; 512]
+pub fn note_bodies(table: &[u32], n: u32) -> [u32; 512]
     requires { ⌜ Passing (now table) n ⌝ }
     ensures { λ a. ⌜ Bodies (now (table .entry)) n a ⌝ }
 {
@@ -100,7 +129,7 @@ fn note_bodies(table: &[u32], n: u32) -> [u32; 512]
 }
 
 // The body of row v's value.
-fn home_of(table: &[u32], n: u32, bodies: &[u32; 512], v: u32) -> u32
+pub fn home_of(table: &[u32], n: u32, bodies: &[u32; 512], v: u32) -> u32
     requires { ⌜ Passing (now table) n × Bodies (now table) n (now bodies) × (v < n) ⌝ }
     ensures { λ x. ⌜ x ≡ home (now (table .entry)) v ⌝ }
 {
@@ -112,67 +141,224 @@ fn home_of(table: &[u32], n: u32, bodies: &[u32; 512], v: u32) -> u32
         return v;
     }
     if kind == NEXT {
-        return body_at(bodies, body_at(bodies, v));
+        return noted_at(bodies, noted_at(bodies, v));
     }
-    body_at(bodies, v)
+    noted_at(bodies, v)
 }
 
 // The body in which row r's operands are read.
-fn reads_of(table: &[u32], n: u32, bodies: &[u32; 512], r: u32) -> u32
+pub fn reads_of(table: &[u32], n: u32, bodies: &[u32; 512], r: u32) -> u32
     requires { ⌜ Passing (now table) n × Bodies (now table) n (now bodies) × (r < n) ⌝ }
     ensures { λ x. ⌜ x ≡ reads (now (table .entry)) r ⌝ }
 {
     let kind = kind_at(table, r);
     if kind == ARG {
-        return body_at(bodies, body_at(bodies, r));
+        return noted_at(bodies, noted_at(bodies, r));
     }
-    body_at(bodies, r)
+    noted_at(bodies, r)
 }
 
-// Marks every loop that value v passes on its way from body b out to its home, one loop further out each time.
-fn carry_in(
+// The number of row v's wire at home, from the first output of each row.
+pub fn home_wire(table: &[u32], n: u32, pairs: &[u32; 512], wires: &[u32; 512], v: u32) -> u32
+    requires { ⌜ Passing (now table) n × Pairs (now table) (now pairs) × Low (now wires) × (v < n) × (kindOf (now table) v ≤ 6) ⌝ }
+    ensures { λ w. ⌜ w ≡ homeFrom (now (table .entry)) (now (wires .entry)) v ⌝ }
+{
+    let kind = kind_at(table, v);
+    if kind <= CONST {
+        return v;
+    }
+    if kind <= PICK {
+        return wires[v as usize];
+    }
+    if kind == FOR {
+        return wires[v as usize] + 2;
+    }
+    if kind == ARG {
+        return wires[v as usize] + 1;
+    }
+    let a = pairs[v as usize];
+    wires[a as usize] + 2
+}
+
+// 1 where a row of this kind is a start, else 0.
+fn start_of(kind: u32) -> u32
+    ensures { λ f. ⌜ (f ≡ flag (leb kind 1)) × (f ≤ 1) ⌝ }
+{
+    if kind <= CONST { 1 } else { 0 }
+}
+
+// How many starts there are.
+pub fn count_starts(table: &[u32], n: u32) -> u32
+    requires { ⌜ Passing (now table) n ⌝ }
+    ensures { λ c. ⌜ (c ≡ startTotal (now (table .entry))) × (c ≤ 512) ⌝ }
+{
+    let mut count: u32 = 0;
+    let mut r: u32 = 0;
+    while r < n {
+        count += start_of(kind_at(table, r));
+        r += 1;
+    }
+    count
+}
+
+// 1 where a row of this kind is a result, else 0.
+fn result_of(kind: u32) -> u32
+    ensures { λ f. ⌜ (f ≡ flag (eqb kind 8)) × (f ≤ 1) ⌝ }
+{
+    if kind == OUT { 1 } else { 0 }
+}
+
+// How many results there are.
+pub fn count_results(table: &[u32], n: u32) -> u32
+    requires { ⌜ Passing (now table) n ⌝ }
+    ensures { λ c. ⌜ (c ≡ resultTotal (now (table .entry))) × (c ≤ 512) ⌝ }
+{
+    let mut count: u32 = 0;
+    let mut r: u32 = 0;
+    while r < n {
+        count += result_of(kind_at(table, r));
+        r += 1;
+    }
+    count
+}
+
+// How many nodes row r has.
+fn nodes_of(table: &[u32], n: u32, counts: &[u32; 512], r: u32) -> u32
+    requires { ⌜ Passing (now table) n × Counted (now table) (now counts) × (r < n) ⌝ }
+    ensures { λ x. ⌜ (nodeBase (now (table .entry)) (r + 1) ≡ nodeBase (now (table .entry)) r + x) × (x ≤ 2000) ⌝ }
+{
+    let kind = kind_at(table, r);
+    if kind == FOR {
+        return 3 + 2 * counts[r as usize];
+    }
+    if kind == ARG {
+        return 2;
+    }
+    if kind == OP {
+        return 1;
+    }
+    if kind == PICK {
+        return 1;
+    }
+    0
+}
+
+// How many outputs the nodes of row r have.
+fn wires_of(table: &[u32], n: u32, counts: &[u32; 512], r: u32) -> u32
+    requires { ⌜ Passing (now table) n × Counted (now table) (now counts) × (r < n) ⌝ }
+    ensures { λ x. ⌜ (wireBase (now (table .entry)) (r + 1) ≡ wireBase (now (table .entry)) r + x) × (x ≤ 2000) ⌝ }
+{
+    let kind = kind_at(table, r);
+    if kind == FOR {
+        return 5 + 3 * counts[r as usize];
+    }
+    if kind == ARG {
+        return 3;
+    }
+    if kind == OP {
+        return 1;
+    }
+    if kind == PICK {
+        return 1;
+    }
+    0
+}
+
+// How many nodes and wires there are before forks.
+pub struct Plain {
+    pub nodes: u32,
+    pub wires: u32,
+}
+
+// The first node and the first output of each row, and how many there are of both.
+pub fn note_bases(
     table: &[u32],
     n: u32,
-    bodies: &[u32; 512],
-    marks: &mut [u32; 262144],
-    v: u32,
-    h: u32,
-    b: u32,
-)
-    requires { ⌜ Passing (now table) n × Bodies (now table) n (now bodies) × (v < n) × (h ≡ home (now table) v) × OnTheWay (now table) v b × (length (now marks) ≡ 262144) ⌝ }
-    ensures { λ u. ⌜ Marks (now (table .entry)) v b (now (marks .entry)) (now (marks .exit)) ⌝ }
+    starts: u32,
+    counts: &[u32; 512],
+    nodes: &mut [u32; 512],
+    wires: &mut [u32; 512],
+) -> Plain
+    requires { ⌜ Passing (now table) n × (starts ≡ startTotal (now table)) × Counted (now table) (now counts) × (length (now nodes) ≡ 512) × (length (now wires) ≡ 512) ⌝ }
+    ensures { λ p. ⌜ Bases (now (table .entry)) (now (nodes .exit)) (now (wires .exit)) × (p .nodes ≡ plainNodes (now (table .entry))) × (p .wires ≡ plainWires (now (table .entry))) × (Low (now (wires .entry)) → Low (now (wires .exit))) ⌝ }
 {
-    if b == h {
-        return;
+    let mut node: u32 = 0;
+    let mut wire = starts;
+    let mut r: u32 = 0;
+    while r < n {
+        nodes[r as usize] = node;
+        wires[r as usize] = wire;
+        node += nodes_of(table, n, counts, r);
+        wire += wires_of(table, n, counts, r);
+        r += 1;
     }
-    marks[(512 * b + v) as usize] = 1;
-    carry_in(table, n, bodies, marks, v, h, body_at(bodies, b));
+    Plain {
+        nodes: node,
+        wires: wire,
+    }
 }
 
-// Marks the ways of row r's operands.
-fn mark_row(table: &[u32], n: u32, bodies: &[u32; 512], marks: &mut [u32; 262144], r: u32)
-    requires { ⌜ Passing (now table) n × Bodies (now table) n (now bodies) × (r < n) × (length (now marks) ≡ 262144) ⌝ }
-    ensures { λ u. ⌜ RowMarks (now (table .entry)) r (operandCount (kindOf (now (table .entry)) r)) (now (marks .entry)) (now (marks .exit)) ⌝ }
+// Links row r's operands, each behind the last one that names the same value.
+fn note_row_uses(table: &[u32], n: u32, heads: &mut [u32; 512], links: &mut [u32; 1536], r: u32)
+    requires { ⌜ Passing (now table) n × (r < n) × Uses (now table) (3 * r) (now heads) (now links) ⌝ }
+    ensures { λ u. ⌜ Uses (now (table .entry)) (3 * (r + 1)) (now (heads .exit)) (now (links .exit)) ⌝ }
 {
     let m = operand_count(kind_at(table, r));
-    let b = reads_of(table, n, bodies, r);
     let mut j: u32 = 0;
     while j < m {
         let v = operand_at(table, r, j);
-        let h = home_of(table, n, bodies, v);
-        carry_in(table, n, bodies, marks, v, h, b);
+        links[(3 * r + j) as usize] = heads[v as usize];
+        heads[v as usize] = 3 * r + j + 1;
         j += 1;
     }
 }
 
-// Marks, for each loop and value, whether the value is carried into the loop.
-fn mark_rows(table: &[u32], n: u32, bodies: &[u32; 512], marks: &mut [u32; 262144])
-    requires { ⌜ Passing (now table) n × Bodies (now table) n (now bodies) × Marked (now table) 0 (now marks) ⌝ }
-    ensures { λ u. ⌜ Marked (now (table .entry)) n (now (marks .exit)) ⌝ }
+// For every value the operands that name it, linked, last first.
+pub fn note_uses(table: &[u32], n: u32, heads: &mut [u32; 512], links: &mut [u32; 1536])
+    requires { ⌜ Passing (now table) n × (length (now heads) ≡ 512) × (length (now links) ≡ 1536) × ((v : ℕ) → v < 512 → getD (now heads) v 0 ≡ 0) ⌝ }
+    ensures { λ u. ⌜ Uses (now (table .entry)) (3 * n) (now (heads .exit)) (now (links .exit)) ⌝ }
 {
     let mut r: u32 = 0;
     while r < n {
-        mark_row(table, n, bodies, marks, r);
+        note_row_uses(table, n, heads, links, r);
         r += 1;
     }
+}
+
+// The ARG that NEXT r serves: the one behind that of the NEXT before it, or the first of the loop.
+fn served_by(table: &[u32], n: u32, bodies: &[u32; 512], pairs: &[u32; 512], r: u32) -> u32
+    requires { ⌜ Passing (now table) n × Bodies (now table) n (now bodies) × PairsBefore (now table) r (now pairs) × (r < n) × (kindOf (now table) r ≡ 6) ⌝ }
+    ensures { λ a. ⌜ a ≡ argOf (now (table .entry)) r ⌝ }
+{
+    let before = r - 1;
+    if kind_at(table, before) == NEXT {
+        return pairs[before as usize] + 1;
+    }
+    bodies[r as usize] + 1
+}
+
+// Pairs row r with its ARG where it is a NEXT.
+fn pair_row(table: &[u32], n: u32, bodies: &[u32; 512], pairs: &mut [u32; 512], r: u32)
+    requires { ⌜ Passing (now table) n × Bodies (now table) n (now bodies) × PairsBefore (now table) r (now pairs) × (r < n) ⌝ }
+    ensures { λ u. ⌜ PairsBefore (now (table .entry)) (r + 1) (now (pairs .exit)) ⌝ }
+{
+    if kind_at(table, r) == NEXT {
+        let a = served_by(table, n, bodies, pairs, r);
+        pairs[r as usize] = a;
+        pairs[a as usize] = r;
+    }
+}
+
+// The ARG that each NEXT serves, and the NEXT that serves each ARG.
+pub fn note_pairs(table: &[u32], n: u32, bodies: &[u32; 512]) -> [u32; 512]
+    requires { ⌜ Passing (now table) n × Bodies (now table) n (now bodies) ⌝ }
+    ensures { λ a. ⌜ Pairs (now (table .entry)) a ⌝ }
+{
+    let mut pairs = [0u32; 512];
+    let mut r: u32 = 0;
+    while r < n {
+        pair_row(table, n, bodies, &mut pairs, r);
+        r += 1;
+    }
+    pairs
 }

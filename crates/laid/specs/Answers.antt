@@ -13,7 +13,7 @@ use mathlib.Core.Logic.{_≢_}
 use mathlib.Core.Bool.{Bool, true, false, cond, _&&_}
 use mathlib.Core.List.{List}
 use native.Mathlib.Omega.{arith}
-use borrow.Author.Tests.{le-leb, lt-leb, ne-eqb}
+use borrow.Author.Tests.{leb-true, le-leb, lt-leb, ne-eqb}
 use lib.Dec.{eqb, leb}
 use lib.ListN.{length}
 use lib.Seq.{sets}
@@ -100,3 +100,9 @@ module _ (t : List ℕ) where
   written-graph-is-accepted lent h =
       let p = refused-none (hasRoom t && leb (length (loweredWords t)) lent) h in
       accepted-table-lowers-to-an-accepted-graph t (number-0-is-no-refusal (p .0)) (and-both (hasRoom t) (leb (length (loweredWords t)) lent) (p .1) .0)
+
+  pub written-graph-fits : (lent : ℕ) → lowerRefusal t lent .number ≡ 0 → length (loweredWords t) ≤ lent
+  unfolding lowerRefusal fitsInto
+  written-graph-fits lent h =
+      let p = refused-none (hasRoom t && leb (length (loweredWords t)) lent) h in
+      leb-true (length (loweredWords t)) lent (and-both (hasRoom t) (leb (length (loweredWords t)) lent) (p .1) .1)

@@ -14,20 +14,20 @@ returns c = start-home _ _ (c .before .before .before .pre .0) _ _ (c .before .k
 returns-2 : tie.Need-returns-2
 returns-2 c = for-home _ _ (c .before .before .before .before .pre .0) _ _ (c .before .before .kind-at .ensures) (c .if2 .taken)
 
-body-at-requires : tie.Need-body-at-requires
-body-at-requires c κs = search needs
+noted-at-requires : tie.Need-noted-at-requires
+noted-at-requires c κs = search needs
 
-body-at-requires-2 : tie.Need-body-at-requires-2
-body-at-requires-2 c κs = let z = next-body-below _ _ (c .before .before .before .before .before .before .pre .0) _ _ _ _ (c .before .before .before .before .before .before .pre .1) (c .before .before .before .before .before .before .pre .2) (c .before .before .before .before .kind-at .ensures) (c .before .if3 .taken) (c .body-at .ensures) in omega (arith, c .before .before .before .before .before .before .pre .0 .few)
+noted-at-requires-2 : tie.Need-noted-at-requires-2
+noted-at-requires-2 c κs = let z = next-body-below _ _ (c .before .before .before .before .before .before .pre .0) _ _ _ _ (c .before .before .before .before .before .before .pre .1) (c .before .before .before .before .before .before .pre .2) (c .before .before .before .before .kind-at .ensures) (c .before .if3 .taken) (c .noted-at .ensures) in omega (arith, c .before .before .before .before .before .before .pre .0 .few)
 
 returns-3 : tie.Need-returns-3
-returns-3 c = next-home _ _ (c .before .before .before .before .before .before .before .pre .0) _ _ _ _ _ (c .before .before .before .before .before .before .before .pre .1) (c .before .before .before .before .before .before .before .pre .2) (c .before .before .before .before .before .kind-at .ensures) (c .before .before .if3 .taken) (c .before .body-at .ensures) (c .body-at2 .ensures)
+returns-3 c = next-home _ _ (c .before .before .before .before .before .before .before .pre .0) _ _ _ _ _ (c .before .before .before .before .before .before .before .pre .1) (c .before .before .before .before .before .before .before .pre .2) (c .before .before .before .before .before .kind-at .ensures) (c .before .before .if3 .taken) (c .before .noted-at .ensures) (c .noted-at2 .ensures)
 
-body-at-requires-3 : tie.Need-body-at-requires-3
-body-at-requires-3 c κs = search needs
+noted-at-requires-3 : tie.Need-noted-at-requires-3
+noted-at-requires-3 c κs = search needs
 
 returns-4 : tie.Need-returns-4
-returns-4 c = other-home _ _ (c .before .before .before .before .before .before .pre .0) _ _ _ _ (c .before .before .before .before .before .before .pre .1) (c .before .before .before .before .before .before .pre .2) (c .before .before .before .before .kind-at .ensures) (c .before .before .before .if1 .left) (c .before .before .if2 .left) (c .before .if3 .left) (c .body-at3 .ensures)
+returns-4 c = other-home _ _ (c .before .before .before .before .before .before .pre .0) _ _ _ _ (c .before .before .before .before .before .before .pre .1) (c .before .before .before .before .before .before .pre .2) (c .before .before .before .before .kind-at .ensures) (c .before .before .before .if1 .left) (c .before .before .if2 .left) (c .before .if3 .left) (c .noted-at3 .ensures)
 
 pub home-of-spec : {M : Type 1} → statement M
 home-of-spec =
@@ -36,8 +36,8 @@ home-of-spec =
     kind-at-requires
     returns
     returns-2
-    body-at-requires
-    body-at-requires-2
+    noted-at-requires
+    noted-at-requires-2
     returns-3
-    body-at-requires-3
+    noted-at-requires-3
     returns-4)

@@ -1,0 +1,71 @@
+-- A value's sort, and its wire at home by noted outputs, kind by kind. Assumes nothing.
+use Prim.Native.Nat.{ℕ, _+_, _≤_, _<_}
+use mathlib.Core.Path.{_≡_, sym, ap, _∙_}
+use mathlib.Core.Logic.{_≢_}
+use mathlib.Core.List.{List}
+use native.Mathlib.Omega.{arith}
+use borrow.Author.Tests.{le-leb, lt-leb, eq-eqb, ne-eqb}
+use lib.ListN.{getD}
+use Rattle.table.specs.Rows.{kindOf, word, size, sortOf}
+use Rattle.table.specs.Bodies.{argOf}
+use Rattle.structure.specs.Structure.{Structure, right-table-has-structure}
+use Rattle.laid.specs.Reached.{in-table}
+use Rattle.carrying.specs.Kept.{Passing, Pairs, homeFrom}
+
+module _ (t : List ℕ) (v k : ℕ) (e : k ≡ kindOf t v) where
+  pub flag-sort : (w : ℕ) → k ≡ 2 → w ≡ word t v 1 → 3 ≤ w → 1 ≡ sortOf t v
+  unfolding sortOf
+  flag-sort w h d l = rw (eq-eqb (kindOf t v) 2 (sym e ∙ h), le-leb 3 (word t v 1) (omega arith))
+
+  pub word-sort : (w : ℕ) → k ≡ 2 → w ≡ word t v 1 → w < 3 → 0 ≡ sortOf t v
+  unfolding sortOf
+  word-sort w h d l = rw (eq-eqb (kindOf t v) 2 (sym e ∙ h), lt-leb 3 (word t v 1) (omega arith))
+
+  pub other-sort : k ≢ 2 → 0 ≡ sortOf t v
+  unfolding sortOf
+  other-sort h = rw (ne-eqb (kindOf t v) 2 (λ z. h (e ∙ z)))
+
+  module _ (wires : List ℕ) where
+    pub start-home : k ≤ 1 → v ≡ homeFrom t wires v
+    unfolding homeFrom
+    start-home h = rw (le-leb (kindOf t v) 1 (omega arith))
+
+    pub op-home : 1 < k → k ≤ 3 → getD wires v 0 ≡ homeFrom t wires v
+    unfolding homeFrom
+    op-home a b = rw (lt-leb (kindOf t v) 1 (omega arith), le-leb (kindOf t v) 3 (omega arith))
+
+    pub for-home : 3 < k → k ≡ 4 → getD wires v 0 + 2 ≡ homeFrom t wires v
+    unfolding homeFrom
+    for-home a b = rw (lt-leb (kindOf t v) 1 (omega arith), lt-leb (kindOf t v) 3 (omega arith), eq-eqb (kindOf t v) 4 (sym e ∙ b))
+
+    pub arg-home : 3 < k → k ≢ 4 → k ≡ 5 → getD wires v 0 + 1 ≡ homeFrom t wires v
+    unfolding homeFrom
+    arg-home a b c = rw (lt-leb (kindOf t v) 1 (omega arith), lt-leb (kindOf t v) 3 (omega arith), ne-eqb (kindOf t v) 4 (λ z. b (e ∙ z)), eq-eqb (kindOf t v) 5 (sym e ∙ c))
+
+    pub next-home : (a : ℕ) → 3 < k → k ≢ 4 → k ≢ 5 → a ≡ argOf t v → getD wires a 0 + 2 ≡ homeFrom t wires v
+    unfolding homeFrom
+    next-home a l b c d =
+        ap (λ (x : ℕ). getD wires x 0 + 2) d
+        ∙ rw (lt-leb (kindOf t v) 1 (omega arith), lt-leb (kindOf t v) 3 (omega arith), ne-eqb (kindOf t v) 4 (λ z. b (e ∙ z)), ne-eqb (kindOf t v) 5 (λ z. c (e ∙ z)))
+
+-- the ARG that a NEXT serves, as noted
+module _ (t : List ℕ) (n : ℕ) (p : Passing t n) (v k : ℕ) (e : k ≡ kindOf t v) (few : kindOf t v ≤ 6) (l : v < n) (low : 3 < k) (a : k ≢ 4) (b : k ≢ 5) where
+  abbrev S : Structure t
+  S = right-table-has-structure t (p .right)
+
+  is-next : kindOf t v ≡ 6
+  is-next = let x : kindOf t v ≢ 4 = λ z. a (e ∙ z) in let y : kindOf t v ≢ 5 = λ z. b (e ∙ z) in omega arith
+
+  in-rows : v < size t
+  in-rows = let q = p .rows in omega arith
+
+  pub noted-arg : (pairs : List ℕ) → Pairs t pairs → getD pairs v 0 ≡ argOf t v
+  noted-arg pairs P = P .arg v in-rows is-next
+
+  pub noted-arg-below : (pairs : List ℕ) → Pairs t pairs → getD pairs v 0 < 512
+  noted-arg-below pairs P =
+      let q = S .next-row v in-rows is-next .arg-kind in
+      let z = in-table t S (argOf t v) (λ z. omega arith) in
+      let d = noted-arg pairs P in
+      let f = S .few in
+      omega arith

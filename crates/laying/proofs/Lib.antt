@@ -1,0 +1,8 @@
+-- The laws that the proofs of the functions cite.
+pub mod Putting
+pub mod Those
+pub mod Copies
+pub mod Uses
+pub mod Nodes
+pub mod Results
+pub mod Whole

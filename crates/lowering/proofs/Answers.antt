@@ -1,0 +1,108 @@
+-- The answers of the entries, path by path: what each `return` of the code has to show.
+-- Assumes nothing.
+use Prim.Native.Nat.{ℕ, _+_, _*_, _<_, _≤_}
+use mathlib.Core.Path.{_≡_, refl, sym, ap, _∙_}
+use mathlib.Core.Bool.{Bool, true, false, cond, _&&_}
+use mathlib.Core.List.{List}
+use native.Mathlib.Omega.{arith}
+use borrow.Author.Tests.{ne-eqb, le-leb, lt-leb}
+use lib.Dec.{leb}
+use lib.ListN.{length}
+use lib.Seq.{sets}
+use Rattle.table.specs.Rows.{size}
+use Rattle.table.specs.Check.{Refusal, answer, tableRefusal}
+use Rattle.table.specs.Right.{number-0-is-right, right-table-passes}
+use Rattle.structure.specs.Structure.{Structure, passing-table-has-structure}
+use Rattle.lowered.specs.Lower.{loweredWords}
+use Rattle.lowered.specs.Room.{hasRoom, fitsInto, refusedBy, checkAnswer, lowerRefusal, lowerAnswer, lentAfter}
+use Rattle.laid.specs.Words.{words-long}
+use Rattle.carrying.specs.Kept.{Passing}
+use Rattle.lowering.specs.Ready.{Counted}
+use Rattle.lowering.specs.Answers.{LowerAnswer}
+
+-- ---- a table that passes 1 to 9
+
+pub structure-of : (t : List ℕ) (n : ℕ) → Passing t n → Structure t
+structure-of t n P = passing-table-has-structure t (right-table-passes t (P .right))
+
+-- how many words are written
+pub words-are : (t : List ℕ) {P W N A S R s r n : ℕ} → Counted t P W N A S R → s ≡ S → r ≡ R → n ≡ N → 4 + 2 * s + r + 7 * n ≡ length (loweredWords t)
+words-are t C a b c =
+    let long = words-long t in
+    let e0 = C .starts in
+    let e1 = C .results in
+    let e2 = C .nodes in
+    omega arith
+
+module _ (t : List ℕ) {k r : ℕ} (e : answer k r ≡ tableRefusal t) where
+  number-is : tableRefusal t .number ≡ k
+  number-is = ap (λ (a : Refusal). a .number) (sym e)
+
+  pub few-rows : k ≡ 0 → size t ≤ 512
+  few-rows z = let R = number-0-is-right t (number-is ∙ z) in passing-table-has-structure t (right-table-passes t R) .few
+
+  pub passing : {n : ℕ} → k ≡ 0 → n ≡ size t → Passing t n
+  passing {n} z h = let f = few-rows z in record { right = number-0-is-right t (number-is ∙ z); rows = h; few = omega arith }
+
+  refused-by : (room : Bool) → (k ≡ 0 → ⊥) → answer k r ≡ refusedBy t room
+  unfolding refusedBy
+  refused-by room n = rw (ne-eqb (tableRefusal t .number) 0 (λ q. n (sym number-is ∙ q))) e
+
+  passed-by : (room : Bool) → k ≡ 0 → refusedBy t room ≡ cond room (answer 0 0) (answer 10 (size t))
+  unfolding refusedBy
+  passed-by room z = rw (number-is, z)
+
+  -- ---- check_table
+
+  pub check-refused : (k ≡ 0 → ⊥) → answer k r ≡ checkAnswer t
+  unfolding checkAnswer
+  check-refused n = refused-by (hasRoom t) n
+
+  pub check-done : {b : Bool} → k ≡ 0 → b ≡ hasRoom t → b ≡ true → answer 0 0 ≡ checkAnswer t
+  unfolding checkAnswer
+  check-done z h b = sym (passed-by (hasRoom t) z ∙ ap (λ (x : Bool). cond x (answer 0 0) (answer 10 (size t))) (sym h ∙ b))
+
+  pub check-crowded : {b : Bool} {n : ℕ} → k ≡ 0 → n ≡ size t → b ≡ hasRoom t → b ≡ false → answer 10 n ≡ checkAnswer t
+  unfolding checkAnswer
+  check-crowded z en h b =
+      ap (answer 10) en ∙ sym (passed-by (hasRoom t) z ∙ ap (λ (x : Bool). cond x (answer 0 0) (answer 10 (size t))) (sym h ∙ b))
+
+  -- ---- lower
+
+  module _ (lent : List ℕ) where
+    refused : {number row : ℕ} → answer number row ≡ lowerRefusal t (length lent) → (number ≡ 0 → ⊥) → LowerAnswer t lent number row 0 lent
+    unfolding lowerAnswer lentAfter
+    refused {number} {row} h n =
+        let q : lowerRefusal t (length lent) .number ≡ number = ap (λ (a : Refusal). a .number) (sym h) in
+        let w : lowerRefusal t (length lent) .row ≡ row = ap (λ (a : Refusal). a .row) (sym h) in
+        record { answer = rw (q, w, ne-eqb number 0 n); lent-words = rw (q, ne-eqb number 0 n) }
+
+    pub lower-refused : (k ≡ 0 → ⊥) → LowerAnswer t lent k r 0 lent
+    unfolding lowerRefusal
+    lower-refused n = refused (refused-by (fitsInto t (length lent)) n) n
+
+    without : {n : ℕ} → k ≡ 0 → n ≡ size t → fitsInto t (length lent) ≡ false → LowerAnswer t lent 10 n 0 lent
+    unfolding lowerRefusal
+    without z en h =
+        refused (ap (answer 10) en ∙ sym (passed-by (fitsInto t (length lent)) z ∙ ap (λ (x : Bool). cond x (answer 0 0) (answer 10 (size t))) h)) (λ q. omega arith)
+
+    pub lower-crowded : {b : Bool} {n : ℕ} → k ≡ 0 → n ≡ size t → b ≡ hasRoom t → b ≡ false → LowerAnswer t lent 10 n 0 lent
+    unfolding fitsInto
+    lower-crowded z en h b = without z en (ap (λ (x : Bool). x && leb (length (loweredWords t)) (length lent)) (sym h ∙ b))
+
+    pub lower-lent : {n words : ℕ} → k ≡ 0 → n ≡ size t → words ≡ length (loweredWords t) → length lent < words → LowerAnswer t lent 10 n 0 lent
+    unfolding fitsInto
+    lower-lent z en h l = without z en (rw (lt-leb (length (loweredWords t)) (length lent) (omega arith)) (none (hasRoom t)))
+      where
+        none : (b : Bool) → b && false ≡ false
+        none true = refl
+        none false = refl
+
+    pub lower-done : {b : Bool} {words : ℕ} {after : List ℕ} → k ≡ 0 → b ≡ hasRoom t → b ≡ true → words ≡ length (loweredWords t) → words ≤ length lent
+        → after ≡ sets lent 0 (loweredWords t) → LowerAnswer t lent 0 0 words after
+    unfolding lowerAnswer lentAfter lowerRefusal fitsInto
+    lower-done z h b w l done =
+        let room : hasRoom t ≡ true = sym h ∙ b in
+        let fits : hasRoom t && leb (length (loweredWords t)) (length lent) ≡ true = rw (room, le-leb (length (loweredWords t)) (length lent) (omega arith)) in
+        let q : refusedBy t (hasRoom t && leb (length (loweredWords t)) (length lent)) ≡ answer 0 0 = passed-by _ z ∙ ap (λ (x : Bool). cond x (answer 0 0) (answer 10 (size t))) fits in
+        record { answer = rw (q, w); lent-words = rw q done }
