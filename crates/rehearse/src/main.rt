@@ -243,7 +243,7 @@ fn lower(
         refuse(path, table, lowered.number, lowered.row);
         return;
     }
-    let n = lowered.length as usize;
+    let n = lowered.length;
     if n <= graph.len() {
         on_graph(command, asked, inputs, &graph[..n], text);
         return;

@@ -19,9 +19,6 @@ same-length c = search needs
 returns : tie.Need-returns
 returns c = search needs
 
-cast-n : tie.Need-cast-n
-cast-n c = search needs
-
 slice-reshare-prefix-on-graph : tie.Need-slice-reshare-prefix-on-graph
 slice-reshare-prefix-on-graph c = search needs
 
@@ -60,7 +57,6 @@ lower-spec =
     refuse-requires
     same-length
     returns
-    cast-n
     slice-reshare-prefix-on-graph
     slice-aggregate-on-graph
     on-graph-requires
