@@ -1,2 +1,3 @@
--- A table lowered, loaded and run by the entries answers as its plain reading does.
+-- The demands over the entries' contracts: a table lowered, loaded and run answers as its plain reading does.
 pub mod Rehearsal
+pub mod Tables

@@ -7,6 +7,8 @@
 --                                 list, leaves the reading's words and nothing else, and has passed N + 1 raw and N gated conditions for each opening
 --                                 of N turns
 --   rehearsal-meets-the-fault     where it meets a zero step, no run answers COMPLETE
+--   Called                        three calls one after another, known by their contracts alone
+--   calls-rehearse-the-reading, calls-meet-the-fault      the same of every such three calls
 --   only-inputs-are-refused       a graph that `lower` has written is refused by `load` for the inputs' or the state's length alone
 --
 -- Assumes nothing.
@@ -27,9 +29,9 @@ use Rattle.graph.specs.Refusal.{graphRefusal}
 use Rattle.state.specs.Legal.{rightLength}
 use Rattle.state.specs.Load.{inputCount, loaded}
 use Rattle.state.specs.Run.{COMPLETE, SPENT, Outcome, outcome}
-use Rattle.machine.specs.Entries.{first, loadRefusal, loadState}
-use Rattle.run.specs.Entry.{runRefusal, runAt, runState, runFirings, ranBy, runAnswer, ranOutcome}
-use Rattle.run.specs.Numbers.{ran-shown}
+use Rattle.machine.specs.Entries.{first, loadRefusal, loadState, LoadAnswer}
+use Rattle.run.specs.Entry.{runRefusal, runAt, runState, runFirings, ranBy, runAnswer, ranNumber, ranOutcome}
+use Rattle.run.specs.Numbers.{ran-shown, RunAnswer}
 use Rattle.run.specs.declared.Ran.{Ran}
 use Rattle.run.specs.declared.Ran.the-variants.{Complete, Refused}
 use Rattle.confluence.specs.Statements.{runOf, madeBy, run-is-an-order}
@@ -38,6 +40,7 @@ use Rattle.reading.specs.Outcome.{Reads}
 use Rattle.lowered.specs.Lower.{loweredWords}
 use Rattle.lowered.specs.Room.{hasRoom, fitsInto, lowerRefusal, lowerAnswer, lentAfter}
 use Rattle.laid.specs.Answers.{success-writes-the-graph-first, written-graph-is-accepted, written-graph-fits}
+use Rattle.lowering.specs.Answers.{LowerAnswer}
 use Rattle.faithful.specs.Endings.{AsRead}
 use Rattle.faithful.specs.Statements.{loadedTable, ConditionsTold, written-table-is-checked, lowered-table-means-its-reading, every-run-is-complete, no-run-completes-a-fault}
 
@@ -145,3 +148,57 @@ module _ (t lent : List ℕ) (written : lowerAnswer t (length lent) .number ≡ 
       no-run-completes-a-fault t (written-table-is-checked t (length lent) no-refusal) inputs L openings r list a
       (sym (ap (λ o. o .answer) (ran-shown (loweredWords t) (end inputs s loads list a runs) (made inputs s loads list a runs) .1))
       ∙ ap (λ x. ranOutcome x .answer) (sym (answer-is inputs s loads list a runs) ∙ e))
+
+-- ---- over the contracts
+-- One call after another, none refused: `lower` on lent words, `load` of what it wrote, `run` of what that left. The numbers and words are whatever
+-- the calls gave back; of them nothing is known but what the entries promise.
+pub record Called (t lent inputs s list : List ℕ) (a : ℕ) (q : Ran) (end : List ℕ) : Type 0 where
+  pub row : ℕ
+  pub length : ℕ
+  pub graph : List ℕ
+  pub loaded : List ℕ
+  pub lowers : LowerAnswer t lent 0 row length graph
+  pub loads : LoadAnswer (take length graph) inputs s 0 loaded
+  pub runs : RunAnswer (take length graph) loaded list a q end
+  pub not-refused : ranNumber q ≡ 0
+
+module _ (t lent inputs : List ℕ) where
+  written-by : (s list : List ℕ) (a : ℕ) (q : Ran) (end : List ℕ) → Called t lent inputs s list a q end → lowerAnswer t (length lent) .number ≡ 0
+  written-by s list a q end c = sym (ap (λ x. x .number) (c .lowers .answer))
+
+  module _ (s list : List ℕ) (a : ℕ) (q : Ran) (end : List ℕ) (c : Called t lent inputs s list a q end) where
+    graph-is : take (c .length) (c .graph) ≡ Graph t lent
+    graph-is = ap₂ (λ (n : ℕ) (l : List ℕ). take n l) (ap (λ x. x .length) (c .lowers .answer)) (c .lowers .lent-words)
+
+    load-passes : loadRefusal (Graph t lent) inputs s ≡ 0
+    load-passes = sym (c .loads .number ∙ ap (λ (g : List ℕ). loadRefusal g inputs s) graph-is)
+
+    state-left : c .loaded ≡ loadState (Graph t lent) inputs s
+    state-left = c .loads .state ∙ ap (λ (g : List ℕ). loadState g inputs s) graph-is
+
+    run-passes : runRefusal (Graph t lent) (loadState (Graph t lent) inputs s) list ≡ 0
+    run-passes = sym (ap₂ (λ (g z : List ℕ). runRefusal g z list) graph-is state-left) ∙ sym (c .runs .number) ∙ c .not-refused
+
+    answered : q ≡ runAnswer (Graph t lent) (loadState (Graph t lent) inputs s) list a
+    answered = c .runs .answer ∙ ap₂ (λ (g z : List ℕ). runAnswer g z list a) graph-is state-left
+
+    left : end ≡ runState (Graph t lent) (loadState (Graph t lent) inputs s) list a
+    left = c .runs .state ∙ ap₂ (λ (g z : List ℕ). runState g z list a) graph-is state-left
+
+  -- DEMAND 3 OF EVERY THREE CALLS: where the reading ends there is an F, and with an allowance of F or more the answer is COMPLETE after F firings and the
+  -- state holds the reading's words and nothing else.
+  pub calls-rehearse-the-reading : lowerAnswer t (length lent) .number ≡ 0 → (words : List ℕ) (openings : List Opening) → Reads t inputs (ended words openings)
+      → (F : ℕ) × ((s list : List ℕ) (a : ℕ) (q : Ran) (end : List ℕ) → Called t lent inputs s list a q end → F ≤ a → (q ≡ Complete F) × AsRead t words end)
+  calls-rehearse-the-reading w words openings r =
+      let R = rehearsal-is-the-reading t lent w inputs words openings r in (
+        R .0,
+        λ s list a q end c enough.
+            let x = R .1 s list a (load-passes s list a q end c) (run-passes s list a q end c) enough in
+            (answered s list a q end c ∙ x .answer, subst (AsRead t words) (sym (left s list a q end c)) (x .state)),
+      )
+
+  pub calls-meet-the-fault : (L : ℕ) (openings : List Opening) → Reads t inputs (zeroStep L openings)
+      → (s list : List ℕ) (a F : ℕ) (q : Ran) (end : List ℕ) → Called t lent inputs s list a q end → q ≢ Complete F
+  calls-meet-the-fault L openings r s list a F q end c e =
+      rehearsal-meets-the-fault t lent (written-by s list a q end c) inputs L openings r s list a F (load-passes s list a q end c) (run-passes s list a q end c)
+      (sym (answered s list a q end c) ∙ e)

@@ -88,6 +88,10 @@ module _ (t : List ℕ) where
       go true h = rows-zero (size t) 0 h
       go false h = let z : _≡_ {A = ℕ} 1 0 = h in absurd (omega arith)
 
+  pub passed-check : checkAnswer t .number ≡ 0 → tableRefusal t .number ≡ 0
+  unfolding checkAnswer
+  passed-check h = refused-none (hasRoom t) h .0
+
   -- ---- what is written is accepted
   pub checked-table-lowers : checkAnswer t .number ≡ 0 → graphRefusal (loweredWords t) ≡ 0
   unfolding checkAnswer

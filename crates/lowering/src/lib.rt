@@ -30,7 +30,10 @@ const MOST_NODES: u32 = 4096;
 
 const MOST_WIRES: u32 = 8192;
 
-// How often each wire is used. An input that is not there is no use.
+// Scratch: `rows` has the nodes before forks, seven words each, with the numbers of their inputs' sources; `outs` has those of the results.
+// A table of 8,192 words has a place for each wire: how often it is used, the first number that is free for its forks, its sort.
+
+// One use more of a wire. An input that is not there is no use.
 fn tally(seen: &mut [u32; 8192], x: u32)
     requires { ⌜ Place x × Below 40000 (now seen) ⌝ }
     ensures { λ r. ⌜ now (seen .exit) ≡ oneMore (now (seen .entry)) x ⌝ }
@@ -339,7 +342,7 @@ fn note_sorts(rows: &[u32; 28672], nodes: usize, sorts: &mut [u32; 8192])
     }
 }
 
-// How often each wire is used, and the free numbers for forks that follow.
+// How often each wire is used, by inputs and then by results, and the free numbers that follow.
 fn count_uses(
     rows: &[u32; 28672],
     nodes: usize,
@@ -357,7 +360,8 @@ fn count_uses(
     note_free(uses, wires, free)
 }
 
-// The counts of a table's graph, before forks and with them, and whether they are in their limits.
+// The counts of a table's graph, and whether they are in their limits: `plain` nodes and `sources`, their wires, before forks; `nodes` and
+// `wires` with them.
 struct Sizes {
     plain: u32,
     sources: u32,
@@ -421,6 +425,7 @@ fn measure(
     }
 }
 
+// The graph's words in their order. The uses are numbered by node first and by result last, so the results' legs need the nodes' tally.
 fn write_graph(
     table: &[u32],
     rows: &[u32; 28672],
