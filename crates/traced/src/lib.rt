@@ -1,11 +1,18 @@
 // A run told firing by firing: a line for each, with what the node took and what it gave.
 // The turns are those of the run's rule: the caller's list once, then sweeps from node 0 up until one fires nothing, within the allowance.
+ghost use mathlib.Core.Path.{_≡_};
 ghost use Prim.Native.Nat.{_≤_, _<_};
 ghost use lib.ListN.{length};
-use machine::Fired;
+ghost use Rattle.graph.specs.Graph.{nodeCount};
+ghost use Rattle.state.specs.Net.{netOf};
+ghost use Rattle.state.specs.Run.{turn, follow, sweep, finish};
+ghost use Rattle.run.specs.Numbers.{RunAnswer};
+ghost use Rattle.run.specs.Entry.{at, Runs, Below};
 use run::Ran;
 
 const ABSENT: u32 = 4294967295;
+
+const ORDER: u32 = 18;
 
 // The second wire that a node gives, where it gives two.
 fn second_output(first: u32, outputs: u32) -> u32 {
@@ -165,82 +172,61 @@ fn tell(to: i32, number: u64, graph: &[u32], node: usize, before: [u32; 10], aft
     io::write_all(to, &out[..n]);
 }
 
-// A node's turn: what is left of the allowance.
-fn turn(graph: &[u32], state: &mut [u32], node: usize, left: u64, allowance: u64, to: i32) -> u64
-    requires { ⌜ (node ≤ 8192) × (left ≤ allowance) ⌝ }
-    ensures { λ r. ⌜ r ≤ left ⌝ }
+// Node i's turn: what is left of the allowance. The firing is told with its number.
+fn turn_of(graph: &[u32], state: &mut [u32], i: usize, left: u64, allowance: u64, to: i32) -> u64
+    requires { ⌜ Runs (now graph) (length (now state)) × (i < nodeCount (now graph)) × (left ≤ allowance) ⌝ }
+    ensures turn { λ r. ⌜ (at (now (state .exit)) r ≡ turn (netOf (now (graph .entry))) i (at (now (state .entry)) left)) × (r ≤ left) ⌝ }
 {
     if left == 0 {
         return left;
     }
-    let before = tokens_of(graph, state, node);
-    let fired = machine::fire(graph, state, node);
-    match fired {
-        Fired::Refused(number) => left,
-        Fired::NotReady => left,
-        Fired::Done => {
-            let after = tokens_of(graph, state, node);
-            tell(to, allowance - left + 1, graph, node, before, after);
-            left - 1
-        }
-    }
-}
-
-// A number of the list that names no node is passed by; the run's rule refuses such a list before anything fires.
-fn listed_turn(
-    graph: &[u32],
-    state: &mut [u32],
-    node: u32,
-    left: u64,
-    allowance: u64,
-    to: i32,
-) -> u64
-    requires { ⌜ left ≤ allowance ⌝ }
-    ensures { λ r. ⌜ r ≤ left ⌝ }
-{
-    if node < 8192 {
-        return turn(graph, state, node as usize, left, allowance, to);
+    let before = tokens_of(graph, state, i);
+    if firing::fire_node(graph, state, i) {
+        let after = tokens_of(graph, state, i);
+        tell(to, allowance - left + 1, graph, i, before, after);
+        return left - 1;
     }
     left
 }
 
 // The caller's list once.
-fn follow(graph: &[u32], state: &mut [u32], order: &[u32], allowance: u64, to: i32) -> u64
-    ensures { λ r. ⌜ r ≤ allowance ⌝ }
+fn follow_order(graph: &[u32], state: &mut [u32], order: &[u32], allowance: u64, to: i32) -> u64
+    requires { ⌜ Runs (now graph) (length (now state)) × Below (now graph) (now order) ⌝ }
+    ensures followed { λ r. ⌜ (at (now (state .exit)) r ≡ follow (netOf (now (graph .entry))) (now (order .entry)) (at (now (state .entry)) allowance)) × (r ≤ allowance) ⌝ }
 {
     let mut left = allowance;
     let mut k: usize = 0;
     while k < order.len() {
-        left = listed_turn(graph, state, order[k], left, allowance, to);
+        left = turn_of(graph, state, graph::wide(order[k]), left, allowance, to);
         k += 1;
     }
     left
 }
 
 // One sweep from node 0 up.
-fn sweep(graph: &[u32], state: &mut [u32], given: u64, allowance: u64, to: i32) -> u64
-    requires { ⌜ given ≤ allowance ⌝ }
-    ensures { λ r. ⌜ r ≤ given ⌝ }
+fn sweep_once(graph: &[u32], state: &mut [u32], given: u64, allowance: u64, to: i32) -> u64
+    requires { ⌜ Runs (now graph) (length (now state)) × (given ≤ allowance) ⌝ }
+    ensures swept { λ r. ⌜ (at (now (state .exit)) r ≡ sweep (netOf (now (graph .entry))) (nodeCount (now (graph .entry))) (at (now (state .entry)) given)) × (r ≤ given) ⌝ }
 {
-    let nodes = drawn::count_at(graph, 0);
+    let nodes = graph::wide(graph[0]);
     let mut left = given;
     let mut i: usize = 0;
     while i < nodes {
-        left = turn(graph, state, i, left, allowance, to);
+        left = turn_of(graph, state, i, left, allowance, to);
         i += 1;
     }
     left
 }
 
 // Sweeps until one fires nothing.
-fn sweeps(graph: &[u32], state: &mut [u32], given: u64, allowance: u64, to: i32) -> u64
-    requires { ⌜ given ≤ allowance ⌝ }
-    ensures { λ r. ⌜ r ≤ given ⌝ }
+fn sweep_all(graph: &[u32], state: &mut [u32], given: u64, allowance: u64, to: i32) -> u64
+    requires { ⌜ Runs (now graph) (length (now state)) × (given ≤ allowance) ⌝ }
+    ensures finished { λ r. ⌜ (at (now (state .exit)) r ≡ finish (netOf (now (graph .entry))) (nodeCount (now (graph .entry))) (at (now (state .entry)) given)) × (r ≤ given) ⌝ }
 {
     let mut left = given;
     loop {
         let before = left;
-        left = sweep(graph, state, before, allowance, to);
+        left = sweep_once(graph, state, before, allowance, to);
         if left == before {
             break;
         }
@@ -248,33 +234,18 @@ fn sweeps(graph: &[u32], state: &mut [u32], given: u64, allowance: u64, to: i32)
     left
 }
 
-// A run's answer with another number of firings.
-fn counted(ran: Ran, firings: u64) -> Ran {
-    match ran {
-        Ran::Refused(number) => Ran::Refused(number),
-        Ran::Spent(none) => Ran::Spent(firings),
-        Ran::Complete(none) => Ran::Complete(firings),
-        Ran::ZeroStep(none, node) => Ran::ZeroStep(firings, node),
-        Ran::Stranded(none) => Ran::Stranded(firings),
+// A run of the lent state, each firing told on `to`. It promises what `run::run` promises, so that a run and its trace agree.
+pub fn run_told(graph: &[u32], state: &mut [u32], order: &[u32], allowance: u64, to: i32) -> Ran
+    ensures answer { λ r. ⌜ RunAnswer (now (graph .entry)) (now (state .entry)) (now (order .entry)) allowance r (now (state .exit)) ⌝ }
+{
+    let refusal = machine::state_refusal(graph, state);
+    if refusal != 0 {
+        return Ran::Refused(refusal);
     }
-}
-
-fn fire_all(graph: &[u32], state: &mut [u32], order: &[u32], allowance: u64, to: i32) -> Ran {
-    let followed = follow(graph, state, order, allowance, to);
-    let left = sweeps(graph, state, followed, allowance, to);
-    let rest = run::run(graph, state, &[], 0);
-    counted(rest, allowance - left)
-}
-
-// A run of the lent state, each firing told on `to`. With an allowance of 0 the library's run fires nothing: it tells what is refused before the
-// first firing, and how the state stands after the last.
-pub fn run_told(graph: &[u32], state: &mut [u32], order: &[u32], allowance: u64, to: i32) -> Ran {
-    let ran = run::run(graph, state, order, 0);
-    match ran {
-        Ran::Refused(number) => Ran::Refused(number),
-        Ran::Spent(none) => fire_all(graph, state, order, allowance, to),
-        Ran::Complete(none) => Ran::Complete(0),
-        Ran::ZeroStep(none, node) => Ran::ZeroStep(0, node),
-        Ran::Stranded(none) => Ran::Stranded(0),
+    if run::order_below(graph, order) {} else {
+        return Ran::Refused(ORDER);
     }
+    let followed = follow_order(graph, state, order, allowance, to);
+    let left = sweep_all(graph, state, followed, allowance, to);
+    run::ended(graph, state, allowance - left)
 }
