@@ -18,6 +18,7 @@ use Rattle.lowered.specs.Roles.{Role, start}
 use Rattle.lowered.specs.Sources.{carried, isOp}
 use Rattle.lowered.specs.Lower.{carriedInto, roles, roleOutputs, rowRoles, isStart, startRows, outRows, starts, wires, startTotal, resultTotal, plainNodes, plainWires}
 use Rattle.laid.specs.Bases.{nodeBase, wireBase, length-pieces, no-roles, node-base-op, node-base-for, node-base-arg, node-base-other, wire-base-op, wire-base-for, wire-base-arg}
+use Rattle.laid.specs.Those.{those-more, those-few}
 use Rattle.carrying.specs.Kept.{Passing, Counted, Bases, Low}
 
 -- The bases of the rows before r, with the sums so far; the outputs stay low.
@@ -31,24 +32,6 @@ pub record BasesBefore (t : List ℕ) (r : ℕ) (old nodes wires : List ℕ) (no
   pub node-small : node ≤ 2000 * r
   pub wire-small : wire ≤ 512 + 2000 * r
   pub low : Low old → Low wires
-
--- ---- the numbers that pass a test, counted
-flag-small : (b : Bool) → flag b ≤ 1
-flag-small true = omega arith
-flag-small false = omega arith
-
-those-more : (test : ℕ → Bool) (r : ℕ) → length (those test (suc r)) ≡ length (those test r) + flag (test r)
-unfolding those
-those-more test r = length-append (those test r) (cond (test r) (r ∷ []) []) ∙ ap (λ (x : ℕ). length (those test r) + x) (one (test r))
-  where
-    one : (b : Bool) → length (cond b (r ∷ []) []) ≡ flag b
-    one true = refl
-    one false = refl
-
-those-few : (test : ℕ → Bool) (n : ℕ) → length (those test n) ≤ n
-unfolding those
-those-few test zero = omega arith
-those-few test (suc n) = let a = those-few test n in let b = those-more test n in let c = flag-small (test n) in omega arith
 
 -- ---- starts and results
 abbrev pub ofKind : (ℕ → Bool) → List ℕ → ℕ → ℕ

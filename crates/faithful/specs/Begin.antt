@@ -5,7 +5,7 @@
 --   state0, shown0, gamma0    the use machine's first state, shown by the graph, is the reading's at row 0
 --
 -- Assumes nothing.
-use mathlib.Core.Path.{_≡_, refl, sym, ap, ap₂, _∙_, subst}
+use mathlib.Core.Path.{_≡_, refl, sym, ap, _∙_, subst}
 use mathlib.Core.Logic.{_≢_, inl, inr}
 use mathlib.Core.Bool.{Bool, true, false}
 use mathlib.Core.Option.{Option, none, some}
@@ -16,9 +16,10 @@ use native.Mathlib.Decide.{ℕ-discrete}
 use Rattle.step.specs.Kinds.{Output, out0, out1}
 use Rattle.step.specs.Machines.{rest}
 use Rattle.state.specs.Net.{Net}
+use Rattle.lowered.specs.Lists.{Among, Once}
 use Rattle.lowered.specs.Roles.{Role, opNode, stream, gate, guard, copySplit, copyInvariant, carry, argSplit, Wire, start, output, Use}
 use Rattle.uses.specs.Machine.{State}
-use Rattle.uses.specs.Wires.{Tokens, Steps2, steps2-append, puts2, puts2-append, Has, Once, Spreads, spread}
+use Rattle.uses.specs.Wires.{Tokens, Steps2, steps2-append, puts2, puts2-both, Spreads, spread}
 use Rattle.uses.specs.Layout.{Layout, Made, Tree, UseOf, Shown, use-in-tree, use-tree, among-use}
 use Rattle.faithful.specs.Table.{Table, Slot, val, isIn, IsFor, wireOf, slot, slotWire, src, Real, plan}
 use Rattle.faithful.specs.Good.{Good, Source, fromStart, fromOp, fromFor, fromArg, fromNext, fromCopy, source, Inward, gateIndex, gateCondition, splitGuard, copyCondition, copySeed, carryCondition, argCondition, argCarried, inward}
@@ -30,7 +31,7 @@ module _ (tb : Table) (net : Net) (y : Layout (plan tb) net) (env : Env) where
     pub done-hit : (v : ℕ) → v < m → Made (plan tb) (start v) → (x : ℕ) → UseOf (plan tb) net y x (start v) → Z .wt x ≡ some (env v)
     pub done-miss : (v : ℕ) → v < m → Made (plan tb) (start v) → (x : ℕ) → Tree (plan tb) net y x (start v) → (UseOf (plan tb) net y x (start v) → ⊥) → Z .wt x ≡ none
     pub todo-root : (v : ℕ) → m ≤ v → Made (plan tb) (start v) → Z .wt (y .ww (start v)) ≡ some (env v)
-    pub todo-tail : (v : ℕ) → m ≤ v → Made (plan tb) (start v) → (x : ℕ) → Has x (y .tail (start v)) → Z .wt x ≡ none
+    pub todo-tail : (v : ℕ) → m ≤ v → Made (plan tb) (start v) → (x : ℕ) → Among x (y .tail (start v)) → Z .wt x ≡ none
     pub inner-wires : (n : Role) (o : Output) → Made (plan tb) (output n o) → (x : ℕ) → Tree (plan tb) net y x (output n o) → Z .wt x ≡ none
     pub idle : (j : ℕ) → Z .wr j ≡ rest
 
@@ -45,12 +46,12 @@ module _ (tb : Table) (net : Net) (y : Layout (plan tb) net) (env : Env) where
   begin-one m Z b md =
       let p = y .sp (start m) md in
       let r = spread net (y .pw) (p .0) (env m) Z (b .todo-root m (omega arith) md) (subst (λ (l : List ℕ). Once (y .ww (start m) ∷ l)) (sym (p .1)) (y .tree-once (start m) md))
-      (λ x h. b .todo-tail m (omega arith) md x (subst (λ (l : List ℕ). Has x l) (p .1) h)) (λ j h. b .idle j) in (
+      (λ x h. b .todo-tail m (omega arith) md x (subst (λ (l : List ℕ). Among x l) (p .1) h)) (λ j h. b .idle j) in (
         r .0,
         r .1,
         r .2,
         onward (r .1) (r .3),
-        λ n o mo. r .4 (y .ww (output n o)) (λ h. let d : start m ≡ output n o = y .tree-apart (start m) (output n o) md mo (y .ww (output n o)) (inr (subst (λ (l : List ℕ). Has (y .ww (output n o)) l) (p .1) h)) (inl refl) in
+        λ n o mo. r .4 (y .ww (output n o)) (λ h. let d : start m ≡ output n o = y .tree-apart (start m) (output n o) md mo (y .ww (output n o)) (inr (subst (λ (l : List ℕ). Among (y .ww (output n o)) l) (p .1) h)) (inl refl) in
             let z : _≡_ {A = ℕ} 0 1 = cc in omega arith),
       )
     where
@@ -81,7 +82,7 @@ module _ (tb : Table) (net : Net) (y : Layout (plan tb) net) (env : Env) where
           missing : (x : ℕ) → Tree (plan tb) net y x (start m) → (UseOf (plan tb) net y x (start m) → ⊥) → B .wt x ≡ none
           missing x (inl c) k = ap (B .wt) c ∙ u .root (λ h. k (subst (λ (z : ℕ). UseOf (plan tb) net y z (start m)) (sym c) h))
           missing x (inr t) k =
-              u .others x (λ c. y .tree-once (start m) md .0 (subst (λ (z : ℕ). Has z (y .tail (start m))) c t)) k ∙ b .todo-tail m (omega arith) md x t
+              u .others x (λ c. y .tree-once (start m) md .0 (subst (λ (z : ℕ). Among z (y .tail (start m))) c t)) k ∙ b .todo-tail m (omega arith) md x t
 
   begin-skip : (m : ℕ) (Z : Tokens) → Begun m Z → (Made (plan tb) (start m) → ⊥) → Begun (suc m) Z
   begin-skip m Z b n =
@@ -110,7 +111,7 @@ module _ (tb : Table) (net : Net) (y : Layout (plan tb) net) (env : Env) where
         q .1,
         steps2-append net (r .0) (q .0) Z (r .1) (q .1) (r .2) (q .2),
         q .3,
-        λ n o mo. puts2-append net (r .0) (q .0) Z (r .1) (q .1) (r .2) (q .2) (y .ww (output n o)) ∙ ap₂ {C = List ℕ} (λ a c. a ++ c) (r .4 n o mo) (q .4 n o mo),
+        λ n o mo. puts2-both net (r .0) (q .0) Z (r .1) (q .1) (r .2) (q .2) (y .ww (output n o)) [] [] (r .4 n o mo) (q .4 n o mo),
       )
 
   -- the use machine's first state

@@ -25,9 +25,10 @@ use Rattle.state.specs.Net
 use Rattle.confluence.specs.Orders.{Rests}
 use Rattle.confluence.specs.Wired.{Wired}
 use Rattle.table.specs.Bodies.{Row, input, const, op, pick, for, arg, next, end, out, unknown}
+use Rattle.lowered.specs.Lists.{Among, Once}
 use Rattle.lowered.specs.Roles.{Role, opNode, stream, gate, guard, copySplit, copyInvariant, carry, argSplit, Wire, start, output, Use, into, result}
 use Rattle.uses.specs.Machine.{State}
-use Rattle.uses.specs.Wires.{Tokens, inTok, view2, Has, Once, Spread, drained, alone, forked, below, nodes, OneOf, uses-in}
+use Rattle.uses.specs.Wires.{Tokens, inTok, view2, Spread, drained, alone, forked, below, nodes, OneOf, uses-in}
 use Rattle.uses.specs.Layout.{Layout, Made, Tree, Shown, wireIf, use-in-tree, dec-use, use-found}
 use Rattle.uses.specs.Flat.{Holds, Rep, view-is}
 use Rattle.faithful.specs.Table.{Table, val, IsFor, wireOf, since, slot, slotWire, src, Real, programOf, opProgram, streamProgram, guardProgram, resultSlot, plan}
@@ -173,7 +174,7 @@ drain-waits (suc p) v h = refl
 
 module _ (net : Net) {P : Type 0} (pw : P → ℕ) where
   fork-quiet : {x : ℕ} {ps : List P} (s : Spread net pw x ps) (B : Tokens) → Once (x ∷ below net pw s)
-      → ((z : ℕ) → Has z (x ∷ below net pw s) → (OneOf net pw z ps → ⊥) → B .wt z ≡ none) → (i : ℕ) → Has i (nodes net pw s) → net .node i (view2 net B i) ≡ none
+      → ((z : ℕ) → Among z (x ∷ below net pw s) → (OneOf net pw z ps → ⊥) → B .wt z ≡ none) → (i : ℕ) → Among i (nodes net pw s) → net .node i (view2 net B i) ≡ none
   fork-quiet {x = x} (drained d h) B o e i (inl c) =
       let z : inTok B (net .input d in0) ≡ none = ap (inTok B) (h .wire0) ∙ e x (inl refl) (λ k. k) in
       ap (λ (j : ℕ). net .node j (view2 net B j)) c ∙ h .does (view2 net B d) ∙ drain-waits (B .wr d .phase) (view2 net B d) z
@@ -183,14 +184,14 @@ module _ (net : Net) {P : Type 0} (pw : P → ℕ) where
       let z : inTok B (net .input f in0) ≡ none = ap (inTok B) (h .wire0) ∙ e x (inl refl) (λ m. o .0 (used m)) in
       ap (λ (j : ℕ). net .node j (view2 net B j)) c ∙ h .does (view2 net B f) ∙ fork-waits (B .wr f .phase) (view2 net B f) z
     where
-      used : (x ≡ pw p) ⊎ OneOf net pw x (q ∷ ps) → Has x (y1 ∷ y2 ∷ below net pw s)
+      used : (x ≡ pw p) ⊎ OneOf net pw x (q ∷ ps) → Among x (y1 ∷ y2 ∷ below net pw s)
       used (inl m) = inl (m ∙ k)
       used (inr m) = inr (uses-in net pw s x m)
   fork-quiet {x = x} (forked {q = q} {ps = ps} p f y1 y2 h k s) B o e i (inr c) =
       fork-quiet s B (o .1 .1) (λ z m n. e z (inr (inr m)) (λ u. not z m n u)) i c
     where
-      not : (z : ℕ) → Has z (y2 ∷ below net pw s) → (OneOf net pw z (q ∷ ps) → ⊥) → (z ≡ pw p) ⊎ OneOf net pw z (q ∷ ps) → ⊥
-      not z m n (inl u) = o .1 .0 (subst (λ (w : ℕ). Has w (y2 ∷ below net pw s)) (u ∙ k) m)
+      not : (z : ℕ) → Among z (y2 ∷ below net pw s) → (OneOf net pw z (q ∷ ps) → ⊥) → (z ≡ pw p) ⊎ OneOf net pw z (q ∷ ps) → ⊥
+      not z m n (inl u) = o .1 .0 (subst (λ (w : ℕ). Among w (y2 ∷ below net pw s)) (u ∙ k) m)
       not z m n (inr u) = n u
 
 -- ---- the graph
@@ -203,7 +204,7 @@ module _ (tb : Table) (net : Net) (nodes′ : ℕ) where
     pub layout : Layout (plan tb) net
     pub all-wires : (x : ℕ) → x < net .wires → (w : Wire) × Made (plan tb) w × Tree (plan tb) net layout x w
     pub wires-in : (w : Wire) → Made (plan tb) w → (x : ℕ) → Tree (plan tb) net layout x w → x < net .wires
-    pub all-nodes : (i : ℕ) → i < nodes′ → ((n : Role) × Real tb n × (i ≡ layout .num n)) ⊎ ((w : Wire) × Made (plan tb) w × Has i (layout .forks w))
+    pub all-nodes : (i : ℕ) → i < nodes′ → ((n : Role) × Real tb n × (i ≡ layout .num n)) ⊎ ((w : Wire) × Made (plan tb) w × Among i (layout .forks w))
 
   module _ (y : Laid) where
     -- the loaded state: each start's word on its wire, all else empty
@@ -232,11 +233,11 @@ module _ (tb : Table) (net : Net) (nodes′ : ℕ) where
           idle = λ j. refl;
         }
       where
-        off : (v u : ℕ) → Made (plan tb) (start v) → Made (plan tb) (start u) → (x : ℕ) → Has x (y .layout .tail (start v)) → x ≡ y .layout .ww (start u) → ⊥
+        off : (v u : ℕ) → Made (plan tb) (start v) → Made (plan tb) (start u) → (x : ℕ) → Among x (y .layout .tail (start v)) → x ≡ y .layout .ww (start u) → ⊥
         off v u m mu x t c =
             let d : start v ≡ start u = y .layout .tree-apart (start v) (start u) m mu x (inr t) (inl c) in
             y .layout .tree-once (start v) m .0
-            (subst (λ (z : ℕ). Has z (y .layout .tail (start v))) (c ∙ ap (y .layout .ww) (sym d)) t)
+            (subst (λ (z : ℕ). Among z (y .layout .tail (start v))) (c ∙ ap (y .layout .ww) (sym d)) t)
 
     pub first-rep : (env : Env) (st : List ℕ) → (l : Loaded env st) → Rep nodes′ net st (record { wt = l .cell; wr = λ j. rest })
     first-rep env st l = record { long = l .long; wire = l .cells; record-of = l .recs }
@@ -275,7 +276,7 @@ module _ (tb : Table) (net : Net) (nodes′ : ℕ) where
               go none h = ap (inTok B) (L .ins n rl k ∙ ap (λ (z : Option Wire). wireIf z (L .pw (into n k))) h)
               go (some w) h = ap (inTok B) (L .ins n rl k ∙ ap (λ (z : Option Wire). wireIf z (L .pw (into n k))) h) ∙ sh .at-use (into n k) w h ∙ end-node tb g env t Γ n k w h
 
-          go : ((n : Role) × Real tb n × (i ≡ L .num n)) ⊎ ((w : Wire) × Made (plan tb) w × Has i (L .forks w)) → net .node i (view2 net B i) ≡ none
+          go : ((n : Role) × Real tb n × (i ≡ L .num n)) ⊎ ((w : Wire) × Made (plan tb) w × Among i (L .forks w)) → net .node i (view2 net B i) ≡ none
           go (inl c) =
               let n = c .0 in
               let rl = c .1 in
@@ -286,7 +287,7 @@ module _ (tb : Table) (net : Net) (nodes′ : ℕ) where
               let m = c .1 in
               let p = L .sp w m in
               fork-quiet net (L .pw) (p .0) B (subst (λ (l : List ℕ). Once (L .ww w ∷ l)) (sym (p .1)) (L .tree-once w m))
-              (λ z h k. sh .between w m z (subst (λ (l : List ℕ). Has z (L .ww w ∷ l)) (p .1) h) k) i (subst (λ (l : List ℕ). Has i l) (sym (p .2)) (c .2))
+              (λ z h k. sh .between w m z (subst (λ (l : List ℕ). Among z (L .ww w ∷ l)) (p .1) h) k) i (subst (λ (l : List ℕ). Among i l) (sym (p .2)) (c .2))
 
       pub rests : (st : List ℕ) → Rep nodes′ net st B → Rests (fire net) st
       unfolding fire

@@ -33,7 +33,7 @@ use Rattle.faithful.specs.Good.{Good}
 use Rattle.faithful.specs.Gamma.{Env, Inside, Gamma}
 use Rattle.faithful.specs.Rows.{setBy, setTo, choose, body-quiet, plainRow, step-plain, Path, silent, step-op, step-pick}
 use Rattle.faithful.specs.Stages.{sayIf}
-use Rattle.faithful.specs.Turn.{isNext, argsTo, nextsTo, turnEnv, inside-open, inside-none, inside-again, inside-leave}
+use Rattle.faithful.specs.Turn.{isNext, argsTo, nextsTo, turnEnv, for-edge, turn-edge, end-edge, exit-edge, inside-same}
 use Rattle.faithful.specs.For.{step-open, step-none}
 use Rattle.faithful.specs.End.{step-again, step-leave}
 use Rattle.faithful.specs.Carried.{first-is, last-is}
@@ -238,7 +238,7 @@ module _ (t : List ℕ) (S : Structure t) where
                         (P .4 M ∙ ap (λ (z : List ℕ). s .hist (stream M) out1 ++ z) (say-own M (1 ∷ []) w)) (P .5 M ∙ append-nil (s .hist (gate M) out1)) (F .told M m))
                     | no n ↦
                         told-same tb M L (tb .first L) os (opening L 1 ∷ os) (s .hist (stream M) out1) (P .1 .hist (stream M) out1) (s .hist (gate M) out1) (P .1 .hist (gate M) out1)
-                        (inside-open tb g L f M (inr m) n) (turns-other M L 1 os n)
+                        (inside-same tb g L f M L (tb .first L) (inr m) n (for-edge tb g L f) (turn-edge tb g L f)) (turns-other M L 1 os n)
                         (P .4 M ∙ ap (λ (z : List ℕ). s .hist (stream M) out1 ++ z) (say-other M (1 ∷ []) n) ∙ append-nil (s .hist (stream M) out1)) (P .5 M ∙ append-nil (s .hist (gate M) out1)) (F .told M m)
                   ];
                 }),
@@ -268,7 +268,7 @@ module _ (t : List ℕ) (S : Structure t) where
                         (P .4 M ∙ ap (λ (z : List ℕ). s .hist (stream M) out1 ++ z) (say-own M (0 ∷ []) w)) (P .5 M ∙ append-nil (s .hist (gate M) out1)) (F .told M m))
                     | no n ↦
                         told-same tb M L (suc (tb .last L)) os (opening L 0 ∷ os) (s .hist (stream M) out1) (P .1 .hist (stream M) out1) (s .hist (gate M) out1) (P .1 .hist (gate M) out1)
-                        (inside-none tb g L f M (inr m) n) (turns-other M L 0 os n)
+                        (inside-same tb g L f M L (suc (tb .last L)) (inr m) n (for-edge tb g L f) (exit-edge tb g L f)) (turns-other M L 0 os n)
                         (P .4 M ∙ ap (λ (z : List ℕ). s .hist (stream M) out1 ++ z) (say-other M (0 ∷ []) n) ∙ append-nil (s .hist (stream M) out1)) (P .5 M ∙ append-nil (s .hist (gate M) out1)) (F .told M m)
                   ];
                 }),
@@ -305,7 +305,7 @@ module _ (t : List ℕ) (S : Structure t) where
                         (P .4 M ∙ ap (λ (z : List ℕ). s .hist (stream M) out1 ++ z) (say-own M (1 ∷ []) w)) (P .5 M ∙ ap (λ (z : List ℕ). s .hist (gate M) out1 ++ z) (say-own M (1 ∷ []) w)) (F .told M m))
                     | no n ↦
                         told-same tb M (tb .last L) (tb .first L) os (oneTurn L os) (s .hist (stream M) out1) (P .1 .hist (stream M) out1) (s .hist (gate M) out1) (P .1 .hist (gate M) out1)
-                        (inside-again tb g L f M (inr m) n) (one-turn-other M L os n)
+                        (inside-same tb g L f M (tb .last L) (tb .first L) (inr m) n (end-edge tb g L f) (turn-edge tb g L f)) (one-turn-other M L os n)
                         (P .4 M ∙ ap (λ (z : List ℕ). s .hist (stream M) out1 ++ z) (say-other M (1 ∷ []) n) ∙ append-nil (s .hist (stream M) out1))
                         (P .5 M ∙ ap (λ (z : List ℕ). s .hist (gate M) out1 ++ z) (say-other M (1 ∷ []) n) ∙ append-nil (s .hist (gate M) out1)) (F .told M m)
                   ];
@@ -334,7 +334,7 @@ module _ (t : List ℕ) (S : Structure t) where
                         (P .4 M ∙ ap (λ (z : List ℕ). s .hist (stream M) out1 ++ z) (say-own M (0 ∷ []) w)) (P .5 M ∙ ap (λ (z : List ℕ). s .hist (gate M) out1 ++ z) (say-own M (0 ∷ []) w)) (F .told M m)
                     | no n ↦
                         told-same tb M (tb .last L) (suc (tb .last L)) os os (s .hist (stream M) out1) (P .1 .hist (stream M) out1) (s .hist (gate M) out1) (P .1 .hist (gate M) out1)
-                        (inside-leave tb g L f M (inr m) n) refl
+                        (inside-same tb g L f M (tb .last L) (suc (tb .last L)) (inr m) n (end-edge tb g L f) (exit-edge tb g L f)) refl
                         (P .4 M ∙ ap (λ (z : List ℕ). s .hist (stream M) out1 ++ z) (say-other M (0 ∷ []) n) ∙ append-nil (s .hist (stream M) out1))
                         (P .5 M ∙ ap (λ (z : List ℕ). s .hist (gate M) out1 ++ z) (say-other M (0 ∷ []) n) ∙ append-nil (s .hist (gate M) out1)) (F .told M m)
                   ];

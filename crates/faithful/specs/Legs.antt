@@ -19,11 +19,10 @@ use Rattle.step.specs.Kinds.{in0, in1, in2, out0, out1}
 use Rattle.step.specs.Machines.{step}
 use Rattle.graph.specs.Graph.{Node, nodeAt, inputOf, outputOf}
 use Rattle.state.specs.Net.{stepAt, netOf}
+use Rattle.lowered.specs.Lists.{Among, Once}
 use Rattle.lowered.specs.Roles.{Use, sameUse}
 use Rattle.lowered.specs.Lower.{drainNode, forkNode, forkRows, forkWires, forkNodes, freeAt, allForkWires, allForkNodes, legBy, legOf}
-use Rattle.uses.specs.Machine.{Among}
-use Rattle.uses.specs.Wires.{Has, Once, IsFork, IsDrain, Spread, drained, alone, forked, below, nodes}
-use Rattle.uses.specs.Machine
+use Rattle.uses.specs.Wires.{IsFork, IsDrain, Spread, drained, alone, forked, below, nodes}
 
 abbrev pub upFrom : ℕ → ℕ → List ℕ
 upFrom j zero = []
@@ -32,11 +31,11 @@ upFrom j (suc k) = j ∷ upFrom (suc j) k
 none-some : {A B : Type 0} (a : A) → _≡_ {A = Option A} none (some a) → B
 none-some a h = let z : _≡_ {A = ℕ} 0 1 = cc in absurd (omega arith)
 
-pub upFrom-all : (k j z : ℕ) → j ≤ z → z < j + k → Has z (upFrom j k)
+pub upFrom-all : (k j z : ℕ) → j ≤ z → z < j + k → Among z (upFrom j k)
 upFrom-all zero j z a b = absurd (omega arith)
 upFrom-all (suc k) j z a b = elim (ℕ-discrete z j) [ yes e ↦ inl e | no e ↦ inr (upFrom-all k (suc j) z (omega arith) (omega arith)) ]
 
-pub upFrom-range : (k j z : ℕ) → Has z (upFrom j k) → (j ≤ z) × (z < j + k)
+pub upFrom-range : (k j z : ℕ) → Among z (upFrom j k) → (j ≤ z) × (z < j + k)
 upFrom-range zero j z h = absurd h
 upFrom-range (suc k) j z (inl e) = (omega arith, omega arith)
 upFrom-range (suc k) j z (inr h) = let r = upFrom-range k (suc j) z h in let r0 = r .0 in let r1 = r .1 in (omega arith, omega arith)
@@ -57,7 +56,7 @@ fork-rows-long s x [] w = refl
 fork-rows-long s x (p ∷ []) w = refl
 fork-rows-long s x (p ∷ q ∷ ps) w = ap suc (fork-rows-long s (suc w) (q ∷ ps) (suc (suc w)))
 
-pub tails-range : (us : List Use) (w z : ℕ) → Has z (tails us w) → (w ≤ z) × (z < w + forkWires us)
+pub tails-range : (us : List Use) (w z : ℕ) → Among z (tails us w) → (w ≤ z) × (z < w + forkWires us)
 tails-range [] w z h = absurd h
 tails-range (p ∷ []) w z h = absurd h
 tails-range (p ∷ q ∷ ps) w z (inl h) = (omega arith, omega arith)
@@ -69,11 +68,11 @@ tails-once [] w = tt
 tails-once (p ∷ []) w = tt
 tails-once (p ∷ q ∷ ps) w = (λ h. first h, (λ h. let r = tails-range (q ∷ ps) (suc (suc w)) (suc w) h in let r0 = r .0 in omega arith, tails-once (q ∷ ps) (suc (suc w))))
   where
-    first : (w ≡ suc w) ⊎ Has w (tails (q ∷ ps) (suc (suc w))) → ⊥
+    first : (w ≡ suc w) ⊎ Among w (tails (q ∷ ps) (suc (suc w))) → ⊥
     first (inl e) = omega arith
     first (inr h) = let r = tails-range (q ∷ ps) (suc (suc w)) w h in let r0 = r .0 in omega arith
 
-pub tails-all : (us : List Use) (w z : ℕ) → w ≤ z → z < w + forkWires us → Has z (tails us w)
+pub tails-all : (us : List Use) (w z : ℕ) → w ≤ z → z < w + forkWires us → Among z (tails us w)
 tails-all [] w z a b = absurd (omega arith)
 tails-all (p ∷ []) w z a b = absurd (omega arith)
 tails-all (p ∷ q ∷ ps) w z a b =
@@ -146,7 +145,7 @@ free-apart (vs ∷ uss) w (suc i) zero us h l = absurd (omega arith)
 free-apart (vs ∷ uss) w (suc i) (suc j) us h l = free-apart uss (w + forkWires vs) i j us h (omega arith)
 
 -- and every number is taken
-pub free-all : (uss : List (List Use)) (w z : ℕ) → w ≤ z → z < w + allForkWires uss → (i : ℕ) × (us : List Use) × (getElem? uss i ≡ some us) × Has z (tails us (freeAt uss w i))
+pub free-all : (uss : List (List Use)) (w z : ℕ) → w ≤ z → z < w + allForkWires uss → (i : ℕ) × (us : List Use) × (getElem? uss i ≡ some us) × Among z (tails us (freeAt uss w i))
 free-all [] w z a b = absurd (omega arith)
 free-all (us ∷ uss) w z a b =
     elim (decLt z (w + forkWires us)) [
@@ -159,7 +158,7 @@ fork-low [] j i = omega arith
 fork-low (us ∷ uss) j zero = omega arith
 fork-low (us ∷ uss) j (suc i) = let r = fork-low uss (j + forkNodes us) i in omega arith
 
-pub fork-all : (uss : List (List Use)) (j z : ℕ) → j ≤ z → z < j + allForkNodes uss → (i : ℕ) × (us : List Use) × (getElem? uss i ≡ some us) × Has z (upFrom (forkAt uss j i) (forkNodes us))
+pub fork-all : (uss : List (List Use)) (j z : ℕ) → j ≤ z → z < j + allForkNodes uss → (i : ℕ) × (us : List Use) × (getElem? uss i ≡ some us) × Among z (upFrom (forkAt uss j i) (forkNodes us))
 fork-all [] j z a b = absurd (omega arith)
 fork-all (us ∷ uss) j z a b =
     elim (decLt z (j + forkNodes us)) [
@@ -188,7 +187,7 @@ place-there p x (q ∷ r ∷ ps) w h = go (sameUse p q) h (place-there p (suc w)
     go (no e) (inl k) ih = absurd (e k)
     go (no e) (inr k) ih = inr (ih k)
 
-pub placed-is : (p : Use) (y x : ℕ) (us : List Use) (w : ℕ) → Machine.Once us → Placed p y x us w → legOf p x us w ≡ y
+pub placed-is : (p : Use) (y x : ℕ) (us : List Use) (w : ℕ) → Once us → Placed p y x us w → legOf p x us w ≡ y
 unfolding legOf
 placed-is p y x [] w o h = absurd h
 placed-is p y x (q ∷ []) w o h = sym (h .1)
@@ -201,7 +200,7 @@ placed-is p y x (q ∷ r ∷ ps) w o h = go (sameUse p q) h (placed-is p y (suc 
     go (no e) (inl k) ih = absurd (e (k .0))
     go (no e) (inr k) ih = ih k
 
-pub placed-tree : (p : Use) (y x : ℕ) (us : List Use) (w : ℕ) → Placed p y x us w → Has y (x ∷ tails us w)
+pub placed-tree : (p : Use) (y x : ℕ) (us : List Use) (w : ℕ) → Placed p y x us w → Among y (x ∷ tails us w)
 placed-tree p y x [] w h = absurd h
 placed-tree p y x (q ∷ []) w h = inl (h .1)
 placed-tree p y x (q ∷ r ∷ ps) w (inl h) = inr (inl (h .1))

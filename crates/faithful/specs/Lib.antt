@@ -8,6 +8,8 @@ pub mod Rows
 pub mod Loop
 pub mod Stages
 pub mod Turn
+pub mod Ports
+pub mod Course
 pub mod For
 pub mod End
 -- Tables of words have that structure, and the reading is followed.

@@ -18,8 +18,9 @@ use lib.Dec.{T, eqb, eqb→eq, eqb-refl}
 use Rattle.step.specs.Kinds.{Input, in1, in2, Output, out0, out1}
 use Rattle.step.specs.Firing.{Effect}
 use Rattle.table.specs.Bodies.{Row, input, const, op, pick, for, arg, next, end, out, unknown}
+use Rattle.lowered.specs.Lists.{Among, among-left, among-right}
 use Rattle.lowered.specs.Roles.{Role, opNode, stream, gate, guard, copySplit, copyInvariant, carry, argSplit, Wire, output, Use, into}
-use Rattle.uses.specs.Machine.{State, giveBy, takeBy, given, taken, Among, after, Ready, Steps, stage-cover, those}
+use Rattle.uses.specs.Machine.{State, giveBy, takeBy, given, taken, after, Ready, Steps, stage-cover, those}
 use Rattle.faithful.specs.Table.{Table, val, IsFor, wireOf, since, slot, isOp, isArg, plan}
 use Rattle.faithful.specs.Good.{Inner, Good, Source, fromStart, fromOp, fromFor, fromArg, fromNext, fromCopy, source, ForUse, intoStream, intoGuard, intoSplit, intoCarry, When, byOp, byFor, byEnd, byOut, when}
 use Rattle.faithful.specs.Gamma.{for-not-end}
@@ -130,15 +131,6 @@ module _ (tb : Table) where
   unfoldable pub roles : ℕ → List Role
   roles L = stream L ∷ gate L ∷ guard L ∷ (argRoles 0 (tb .first L) ++ inRoles L 0 L)
 
-  among-left : (n : Role) (xs ys : List Role) → Among n xs → Among n (xs ++ ys)
-  among-left n [] ys h = absurd h
-  among-left n (x ∷ xs) ys (inl h) = inl h
-  among-left n (x ∷ xs) ys (inr h) = inr (among-left n xs ys h)
-
-  among-right : (n : Role) (xs ys : List Role) → Among n ys → Among n (xs ++ ys)
-  among-right n [] ys h = h
-  among-right n (x ∷ xs) ys h = inr (among-right n xs ys h)
-
   carry-there : (k a x : ℕ) → a ≤ x → x < a + k → Among (carry x) (argRoles a k)
   carry-there zero a x p q = absurd (omega arith)
   carry-there (suc k) a x p q = elim (ℕ-discrete x a) [ yes e ↦ inl (ap carry e) | no e ↦ inr (inr (carry-there k (suc a) x (omega arith) (omega arith))) ]
@@ -166,24 +158,24 @@ module _ (tb : Table) (g : Good tb) (L : ℕ) (f : IsFor tb L) where
       let q = in-two tb L M v h in
       let b : v < M = g .in-before M v (q .1) in
       let e : M ≡ L = q .0 in
-      inr (inr (inr (among-right tb (copySplit M v) (argRoles tb 0 (tb .first L)) (inRoles tb L 0 L)
+      inr (inr (inr (among-right (copySplit M v) (argRoles tb 0 (tb .first L)) (inRoles tb L 0 L)
       (subst (λ (z : ℕ). Among (copySplit z v) (inRoles tb L 0 L)) (sym e) (csplit-there tb L L 0 v (omega arith) (omega arith))))))
   roles-all (copyInvariant M v) h =
       let q = in-two tb L M v h in
       let b : v < M = g .in-before M v (q .1) in
       let e : M ≡ L = q .0 in
-      inr (inr (inr (among-right tb (copyInvariant M v) (argRoles tb 0 (tb .first L)) (inRoles tb L 0 L)
+      inr (inr (inr (among-right (copyInvariant M v) (argRoles tb 0 (tb .first L)) (inRoles tb L 0 L)
       (subst (λ (z : ℕ). Among (copyInvariant z v) (inRoles tb L 0 L)) (sym e) (inv-there tb L L 0 v (omega arith) (omega arith))))))
   roles-all (carry a) h =
       let q = in-arg tb L a h in
       let r = arg-row tb a (q .1) in
       let b : a < tb .first L = subst (λ (z : ℕ). a < tb .first z) (q .0) (g .arg-high a (r .0) (r .1)) in
-      inr (inr (inr (among-left tb (carry a) (argRoles tb 0 (tb .first L)) (inRoles tb L 0 L) (carry-there tb (tb .first L) 0 a (omega arith) (omega arith)))))
+      inr (inr (inr (among-left (carry a) (argRoles tb 0 (tb .first L)) (inRoles tb L 0 L) (carry-there tb (tb .first L) 0 a (omega arith) (omega arith)))))
   roles-all (argSplit a) h =
       let q = in-arg tb L a h in
       let r = arg-row tb a (q .1) in
       let b : a < tb .first L = subst (λ (z : ℕ). a < tb .first z) (q .0) (g .arg-high a (r .0) (r .1)) in
-      inr (inr (inr (among-left tb (argSplit a) (argRoles tb 0 (tb .first L)) (inRoles tb L 0 L) (asplit-there tb (tb .first L) 0 a (omega arith) (omega arith)))))
+      inr (inr (inr (among-left (argSplit a) (argRoles tb 0 (tb .first L)) (inRoles tb L 0 L) (asplit-there tb (tb .first L) 0 a (omega arith) (omega arith)))))
 
   -- A STAGE of the loop's nodes
   pub loop-stage : (eff : Role → Option Effect) (s : State)

@@ -6,8 +6,8 @@
 --   order-shows               every path of the use machine from its first state is shown by one
 --
 -- Assumes nothing.
-use mathlib.Core.Path.{_≡_, refl, ap₂, _∙_}
-use mathlib.Core.List.{List, _++_}
+use mathlib.Core.Path.{_≡_, refl, _∙_}
+use mathlib.Core.List.{List, [], _++_}
 use Prim.Native.Nat.{ℕ}
 use native.Mathlib.Omega.{arith}
 use Rattle.step.specs.Kinds.{Output}
@@ -23,7 +23,7 @@ use Rattle.reading.specs.Reading.{begin, firstWords}
 use Rattle.lowered.specs.Roles.{Role, output}
 use Rattle.lowered.specs.Lower.{wireNumber, loweredWords}
 use Rattle.uses.specs.Machine.{State, Steps}
-use Rattle.uses.specs.Wires.{Tokens, steps2-append, puts2-append}
+use Rattle.uses.specs.Wires.{Tokens, Steps2, steps2-append, puts2, puts2-both}
 use Rattle.uses.specs.Layout.{Made, Shown, run-shown}
 use Rattle.uses.specs.Flat.{Rep, flat-run}
 use Rattle.faithful.specs.Table.{Table, plan}
@@ -78,6 +78,11 @@ module _ (t : List ℕ) (S : Structure t) (ok : graphRefusal (loweredWords t) �
     pub shown : Shown (plan tb) (netOf g) (y .layout) tokens there
     pub words : (n : Role) (o : Output) → Made (plan tb) (output n o) → putOnWire g order (loaded g inputs) (wireNumber t (output n o)) ≡ there .hist n o
 
+  -- the starts put nothing on a node's output, so its words are those of the path
+  after-starts : (xs ys : List ℕ) (Z U X : Tokens) (p : Steps2 (netOf g) xs Z U) (q : Steps2 (netOf g) ys U X) (w : ℕ) (put said : List ℕ)
+      → put ≡ puts2 (netOf g) (xs ++ ys) Z X (steps2-append (netOf g) xs ys Z U X p q) w → puts2 (netOf g) xs Z U p w ≡ [] → puts2 (netOf g) ys U X q w ≡ said → put ≡ said
+  after-starts xs ys Z U X p q w put said e a b = e ∙ puts2-both (netOf g) xs ys Z U X p q w [] said a b
+
   pub order-shows : (path : List Role) (there : State) → Steps (plan tb) path first-state there → Shows there
   unfolding laid layout
   order-shows path there P =
@@ -95,6 +100,6 @@ module _ (t : List ℕ) (S : Structure t) (ok : graphRefusal (loweredWords t) �
         flat = f .2;
         shown = r .3;
         words = λ n o m.
-            f .3 (y .layout .ww (output n o)) ∙ puts2-append N (a .0) (r .0) Z (a .1) (r .1) (a .2) (r .2) (y .layout .ww (output n o))
-            ∙ ap₂ {C = List ℕ} (λ c d. c ++ d) (a .4 n o m) (r .4 n o m);
+            after-starts (a .0) (r .0) Z (a .1) (r .1) (a .2) (r .2) (y .layout .ww (output n o)) (putOnWire g (a .0 ++ r .0) (loaded g inputs) (wireNumber t (output n o))) (there .hist n o)
+            (f .3 (y .layout .ww (output n o))) (a .4 n o m) (r .4 n o m);
       }

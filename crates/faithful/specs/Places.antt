@@ -30,6 +30,7 @@ use Rattle.table.specs.Rows.{kindOf, word}
 use Rattle.table.specs.Bodies.{Row, input, const, op, pick, for, arg, next, end, out, unknown}
 use Rattle.structure.specs.Structure.{Structure}
 use Rattle.lowered.specs.Gathered.{each, position}
+use Rattle.lowered.specs.Lists.{Among}
 use Rattle.lowered.specs.Roles.{Role, sameRole, opNode, stream, gate, guard, copySplit, copyInvariant, carry, argSplit, Wire, sameWire, output, Use, into}
 use Rattle.lowered.specs.Sources.{source}
 use Rattle.lowered.specs.Lower.{roles, roleKind, roleCode, roleOutputs, outputsBy, starts, wires, wireNumber, wireSort, users, forkRows, forkWires, forkNodes, legOf, freeAt, allForkWires, allForkNodes, usersEach, plainNodes, plainWires, allUsers, standsBy, standsOn, roleNode, nodesFrom, forksFrom, loweredNodes, nodeTotal, wireTotal, loweredWords}
@@ -40,8 +41,7 @@ use Rattle.laid.specs.Made.{source-is-made}
 use Rattle.laid.specs.Taken.{present, missing}
 use Rattle.laid.specs.Words.{node-count, wire-count, node-at}
 use Rattle.laid.specs.Listed
-use Rattle.uses.specs.Machine.{Among}
-use Rattle.uses.specs.Wires.{Has, Spread, below, nodes}
+use Rattle.uses.specs.Wires.{Spread, below, nodes}
 use Rattle.uses.specs.Layout.{Layout, Made, wireIf, Tree}
 use Rattle.faithful.specs.Table.{Table, programOf, plan}
 use Rattle.faithful.specs.Sources.{source-is, to-real, from-real, use-is-listed, to-made, from-made, has-out}
@@ -233,7 +233,7 @@ module _ (t : List ℕ) (S : Structure t) where
       (place-there p (wireNumber t w) (users t w) (free w) (users-has t w p (use-is-listed t S p w h) h))
 
   -- ---- trees
-  pub tail-range : (w : Wire) → Made (plan tb) w → (x : ℕ) → Has x (tail w) → (plainWires t ≤ x) × (x < plainWires t + allForkWires (allUsers t))
+  pub tail-range : (w : Wire) → Made (plan tb) w → (x : ℕ) → Among x (tail w) → (plainWires t ≤ x) × (x < plainWires t + allForkWires (allUsers t))
   tail-range w m x h =
       let r = tails-range (users t w) (free w) x h in
       let lo = free-low (allUsers t) (plainWires t) (wireNumber t w) in
@@ -245,7 +245,7 @@ module _ (t : List ℕ) (S : Structure t) where
   unfolding wireNumber
   same-wire w u m k e = same-place sameWire w u (wires t) (wire-listed w m) (wire-listed u k) e
 
-  apart-tails : (w u : Wire) → Made (plan tb) w → Made (plan tb) u → (x : ℕ) → Has x (tail w) → Has x (tail u) → w ≡ u
+  apart-tails : (w u : Wire) → Made (plan tb) w → Made (plan tb) u → (x : ℕ) → Among x (tail w) → Among x (tail u) → w ≡ u
   apart-tails w u m k x h j =
       let a = tails-range (users t w) (free w) x h in
       let b = tails-range (users t u) (free u) x j in
@@ -258,7 +258,7 @@ module _ (t : List ℕ) (S : Structure t) where
         ]
       ]
 
-  pub apart-trees : (w u : Wire) → Made (plan tb) w → Made (plan tb) u → (x : ℕ) → Has x (wireNumber t w ∷ tail w) → Has x (wireNumber t u ∷ tail u) → w ≡ u
+  pub apart-trees : (w u : Wire) → Made (plan tb) w → Made (plan tb) u → (x : ℕ) → Among x (wireNumber t w ∷ tail w) → Among x (wireNumber t u ∷ tail u) → w ≡ u
   apart-trees w u m k x (inl e) (inl d) = same-wire w u m k (sym e ∙ d)
   apart-trees w u m k x (inl e) (inr d) = let a = number-below w m in let b = tail-range u k x d in let b0 = b .0 in absurd (omega arith)
   apart-trees w u m k x (inr e) (inl d) = let a = number-below u k in let b = tail-range w m x e in let b0 = b .0 in absurd (omega arith)
@@ -331,7 +331,7 @@ module _ (t : List ℕ) (S : Structure t) where
   role-does (argSplit a) rl v = refl
 
   -- a role's node is no FORK and no DRAIN
-  pub aside : (n : Role) → Table.Real tb n → (w : Wire) → Made (plan tb) w → Has (num n) (forks w) → ⊥
+  pub aside : (n : Role) → Table.Real tb n → (w : Wire) → Made (plan tb) w → Among (num n) (forks w) → ⊥
   unfolding plainNodes
   aside n rl w m h =
       let a = in-range (roles t) (num n) n (at-position sameRole n (roles t) (role-listed n rl)) in
@@ -357,7 +357,7 @@ module _ (t : List ℕ) (S : Structure t) where
             let h′ = sym (source-is t S p) ∙ h in
             let k′ = sym (source-is t S r) ∙ k in
             let d : w ≡ u = apart-trees w u (use-made p w h′) (use-made r u k′) (standsOn t p) (placed-tree p (standsOn t p) (wireNumber t w) (users t w) (free w) (placed p w h′))
-            (subst (λ (z : ℕ). Has z (wireNumber t u ∷ tail u)) (sym e) (placed-tree r (standsOn t r) (wireNumber t u) (users t u) (free u) (placed r u k′))) in
+            (subst (λ (z : ℕ). Among z (wireNumber t u ∷ tail u)) (sym e) (placed-tree r (standsOn t r) (wireNumber t u) (users t u) (free u) (placed r u k′))) in
             placed-inj p r (standsOn t p) (wireNumber t w) (users t w) (free w) (placed p w h′)
             (subst (λ (z : ℕ). Placed r z (wireNumber t w) (users t w) (free w)) (sym e) (placed r w (k′ ∙ ap some (sym d))));
         num-inj = λ n m rn rm e. same-place sameRole n m (roles t) (role-listed n rn) (role-listed m rm) e;
@@ -368,6 +368,11 @@ module _ (t : List ℕ) (S : Structure t) where
       }
 
   -- ---- and nothing else
+
+  -- what holds of the uses at a place of the list holds of the wire with that number
+  by-number : (P : List Use → ℕ → Type 0) (w : Wire) (i : ℕ) (us : List Use) → wireNumber t w ≡ i → us ≡ users t w → P us i → P (users t w) (wireNumber t w)
+  by-number P w i us e d h = subst (P (users t w)) (sym e) (subst (λ (z : List Use). P z i) d h)
+
   pub wires-of : (x : ℕ) → x < wireCount (loweredWords t) → (w : Wire) × Made (plan tb) w × Tree (plan tb) (netOf (loweredWords t)) layout x w
   unfolding layout wireTotal plainWires allUsers
   wires-of x l =
@@ -383,8 +388,7 @@ module _ (t : List ℕ) (S : Structure t) where
             let ix = number-is (u .0) (r .0) (u .1) in (
               u .0,
               m,
-              inr (subst (λ (i : ℕ). Has x (tails (users t (u .0)) (freeAt (usersEach t (wires t)) (length (wires t)) i))) (sym ix)
-                  (subst (λ (us : List Use). Has x (tails us (freeAt (usersEach t (wires t)) (length (wires t)) (r .0)))) (u .2) (r .3))),
+              inr (by-number (λ us i. Among x (tails us (freeAt (usersEach t (wires t)) (length (wires t)) i))) (u .0) (r .0) (r .1) ix (u .2) (r .3)),
             )
       ]
 
@@ -393,7 +397,7 @@ module _ (t : List ℕ) (S : Structure t) where
   wires-below w m x (inl e) = let a = number-below w m in let c = wire-count t in omega arith
   wires-below w m x (inr h) = let r = tail-range w m x h .1 in let c = wire-count t in omega arith
 
-  pub nodes-of : (i : ℕ) → i < nodeCount (loweredWords t) → ((n : Role) × Table.Real tb n × (i ≡ num n)) ⊎ ((w : Wire) × Made (plan tb) w × Has i (forks w))
+  pub nodes-of : (i : ℕ) → i < nodeCount (loweredWords t) → ((n : Role) × Table.Real tb n × (i ≡ num n)) ⊎ ((w : Wire) × Made (plan tb) w × Among i (forks w))
   unfolding nodeTotal plainNodes allUsers
   nodes-of i l =
       let c = node-count t in
@@ -411,8 +415,7 @@ module _ (t : List ℕ) (S : Structure t) where
             inr (
               u .0,
               m,
-              subst (λ (z : ℕ). Has i (upFrom (length (roles t) + forkAt (usersEach t (wires t)) 0 z) (forkNodes (users t (u .0))))) (sym ix)
-                  (subst (λ (us : List Use). Has i (upFrom (length (roles t) + forkAt (usersEach t (wires t)) 0 (r .0)) (forkNodes us))) (u .2) (subst (λ (z : ℕ). Has i (upFrom z (forkNodes (r .1)))) sh (r .3))),
+              by-number (λ us z. Among i (upFrom (length (roles t) + forkAt (usersEach t (wires t)) 0 z) (forkNodes us))) (u .0) (r .0) (r .1) ix (u .2) (subst (λ (z : ℕ). Among i (upFrom z (forkNodes (r .1)))) sh (r .3)),
             )
       ]
 

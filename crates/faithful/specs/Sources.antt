@@ -23,6 +23,7 @@ use Rattle.table.specs.Rows.{kindOf, word, size, operandCount}
 use Rattle.table.specs.Scan.{bodyOf, reads, home}
 use Rattle.table.specs.Bodies.{Row, input, const, op, pick, for, arg, next, end, out, unknown, operand, argOf, nextOf}
 use Rattle.structure.specs.Structure.{Structure}
+use Rattle.lowered.specs.Lists.{Among}
 use Rattle.lowered.specs.Roles.{Role, opNode, stream, gate, guard, copySplit, copyInvariant, carry, argSplit, Wire, start, output, Use, into, result}
 use Rattle.lowered.specs.Sources.{homeWire, valueWire, source, isFor, isArgRow, carried}
 use Rattle.lowered.specs.Lower.{roleKind}
@@ -31,7 +32,6 @@ use Rattle.lowered.specs.Lower
 use Rattle.laid.specs.Made.{home-of-start, home-of-op, home-of-for, home-of-arg, home-of-next, node-feed, result-feed}
 use Rattle.laid.specs.Listed
 use Rattle.laid.specs.Uses
-use Rattle.uses.specs.Machine.{Among}
 use Rattle.uses.specs.Layout
 use Rattle.faithful.specs.Table.{Table, IsFor, wireBy, slotWire, src, opSlot, streamSlot, guardSlot, gateSlot, copySplitSlot, copyInvariantSlot, carrySlot, argSplitSlot, resultSlot, isForRow, isIn, isArg, HasOut, plan}
 use Rattle.faithful.specs.Carried.{carried-by, carried-before}

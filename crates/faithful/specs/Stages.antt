@@ -1,16 +1,17 @@
 -- Three stages of one loop's nodes, one after the other, from tables of effects by role.
 --
 --   Effects                   an effect or none for each role
+--   put-late, put-nothing     the second and third stage at a use that is empty before them; at one on which they give nothing
 --   Inlet, flow               the eight kinds of inner use of a loop, and what a stage does to one
 --   S1, S2, S3                the states after one, two and three stages
 --   at1, at2, at3, inner3     what stands on the inner uses
---   val3, own3, hist3         and on the others, in the records, and the words put
+--   tokv, own3, hist3         one stage at a value's use; the records, and the words put
 --   fired3                    the stages are firings, if each role is ready in its turn
 --
 -- Assumes nothing.
 use mathlib.Core.Path.{_≡_, refl, sym, ap, ap₂, _∙_, subst}
 use mathlib.Core.Logic.{_⊎_, inl, inr}
-use mathlib.Core.Bool.{Bool, true, false}
+use mathlib.Core.Bool.{Bool, true, false, _||_}
 use mathlib.Core.Option.{Option, none, some}
 use mathlib.Core.List.{List, [], _++_, append-assoc, append-nil}
 use Prim.Native.Nat.{ℕ}
@@ -32,6 +33,33 @@ sayIf false l = []
 
 abbrev pub Effects : Type 0
 Effects = Role → Option Effect
+
+-- ---- what a stage does to a token
+
+pub drop-none : (b : Bool) (x : Option ℕ) → x ≡ none → drop b x ≡ none
+drop-none true x h = refl
+drop-none false x h = h
+
+pub drop-either : (a b : Bool) (x : Option ℕ) → (a || b) ≡ true → drop b (drop a x) ≡ none
+drop-either true b x h = drop-none b none refl
+drop-either false true x h = refl
+drop-either false false x h = let z : _≡_ {A = ℕ} 0 1 = cc in absurd (omega arith)
+
+pub put-none : (a b : Option ℕ) → put a b ≡ none → (a ≡ none) × (b ≡ none)
+put-none none b h = (refl, h)
+put-none (some x) b h = let z : _≡_ {A = ℕ} 0 1 = cc in absurd (omega arith)
+
+pub no-gift : {A : Type 0} → (o : Option ℕ) (y : ℕ) → o ≡ none → o ≡ some y → A
+no-gift o y a b = let z : _≡_ {A = ℕ} 0 1 = cc in absurd (omega arith)
+
+-- stages 2 and 3 at a use that is empty before; at one on which they give nothing
+pub put-late : (a b : Option ℕ) (t2 t3 : Bool) (x : Option ℕ) → t3 ≡ false → x ≡ none → put a (drop t3 (put b (drop t2 x))) ≡ put a b
+put-late none none t2 t3 x e h = rw e (drop-none t2 x h)
+put-late none (some y) t2 t3 x e h = rw e
+put-late (some y) b t2 t3 x e h = refl
+
+pub put-nothing : (a b : Option ℕ) (t2 t3 : Bool) (x : Option ℕ) → t3 ≡ false → put a b ≡ none → put a (drop t3 (put b (drop t2 x))) ≡ drop t2 x
+put-nothing a b t2 t3 x e h = let n = put-none a b h in let n0 = n .0 in let n1 = n .1 in rw (n0, n1, e)
 
 -- the inner links of a loop
 pub data Inlet : Type 0 where
@@ -90,7 +118,7 @@ module _ (tb : Table) (g : Good tb) (L : ℕ) (f : IsFor tb L) where
   InletOf (arg0 a) = (tb .loop a ≡ L) × (isArg (tb .row a) ≡ true)
   InletOf (arg1 a) = (tb .loop a ≡ L) × (isArg (tb .row a) ≡ true)
 
-  node-in : (x : Inlet) → InletOf x → inLoop tb L (inletNode L x) ≡ true
+  pub node-in : (x : Inlet) → InletOf x → inLoop tb L (inletNode L x) ≡ true
   node-in gate0 m = eqb-yes L
   node-in gate1 m = eqb-yes L
   node-in (split0 v) m = two-in tb L v m
@@ -273,39 +301,32 @@ module _ (tb : Table) (g : Good tb) (L : ℕ) (f : IsFor tb L) where
     at3 x m = inlet-token e3 S2 x m (flow e2 x (flow e1 x none)) (at2 x m)
 
     -- inner uses are empty again
-    pub inner3 : ((x : Inlet) → flow e3 x (flow e2 x (flow e1 x none)) ≡ none) → (p : Use) (w : Wire) → slot tb p ≡ inner w → S3 .tok p ≡ none
+    pub inner3 : ((x : Inlet) → InletOf x → flow e3 x (flow e2 x (flow e1 x none)) ≡ none) → (p : Use) (w : Wire) → slot tb p ≡ inner w → S3 .tok p ≡ none
     inner3 h p w q = go (link p w q)
       where
         go : Link p w → S3 .tok p ≡ none
-        go (linked x m a b) = ap (S3 .tok) a ∙ at3 x m ∙ h x
+        go (linked x m a b) = ap (S3 .tok) a ∙ at3 x m ∙ h x m
         go (unlinked a b) = tok-un e3 S2 p w q (a e3) (b e3) (tok-un e2 S1 p w q (a e2) (b e2) (tok-un e1 s p w q (a e1) (b e1) (empty p w q)))
 
     -- inner uses have room
     inlet-room : (e : Effects) (x : Inlet) → InletOf x → (w : Wire) (y : ℕ) → w ≡ output (inletFrom L x) (inletOutput x) → given (only tb L e) (some w) ≡ some y → giveBy (e (inletFrom L x)) (inletOutput x) ≡ some y
     inlet-room e x m w y b k = ap (λ (z : Option Effect). giveBy z (inletOutput x)) (sym (only-yes tb L e (inletFrom L x) (from-in x m))) ∙ ap (λ (z : Wire). given (only tb L e) (some z)) (sym b) ∙ k
 
-    pub room2 : ((x : Inlet) (y : ℕ) → giveBy (e2 (inletFrom L x)) (inletOutput x) ≡ some y → flow e1 x none ≡ none)
+    pub room2 : ((x : Inlet) → InletOf x → (y : ℕ) → giveBy (e2 (inletFrom L x)) (inletOutput x) ≡ some y → flow e1 x none ≡ none)
         → (p : Use) (w : Wire) (y : ℕ) → slot tb p ≡ inner w → given (only tb L e2) (some w) ≡ some y → S1 .tok p ≡ none
     room2 h p w y q k = go (link p w q)
       where
         go : Link p w → S1 .tok p ≡ none
-        go (linked x m a b) = ap (S1 .tok) a ∙ at1 x m ∙ h x y (inlet-room e2 x m w y b k)
+        go (linked x m a b) = ap (S1 .tok) a ∙ at1 x m ∙ h x m y (inlet-room e2 x m w y b k)
         go (unlinked a b) = tok-un e1 s p w q (a e1) (b e1) (empty p w q)
 
-    pub room3 : ((x : Inlet) (y : ℕ) → giveBy (e3 (inletFrom L x)) (inletOutput x) ≡ some y → flow e2 x (flow e1 x none) ≡ none)
+    pub room3 : ((x : Inlet) → InletOf x → (y : ℕ) → giveBy (e3 (inletFrom L x)) (inletOutput x) ≡ some y → flow e2 x (flow e1 x none) ≡ none)
         → (p : Use) (w : Wire) (y : ℕ) → slot tb p ≡ inner w → given (only tb L e3) (some w) ≡ some y → S2 .tok p ≡ none
     room3 h p w y q k = go (link p w q)
       where
         go : Link p w → S2 .tok p ≡ none
-        go (linked x m a b) = ap (S2 .tok) a ∙ at2 x m ∙ h x y (inlet-room e3 x m w y b k)
+        go (linked x m a b) = ap (S2 .tok) a ∙ at2 x m ∙ h x m y (inlet-room e3 x m w y b k)
         go (unlinked a b) = tok-un e2 S1 p w q (a e2) (b e2) (tok-un e1 s p w q (a e1) (b e1) (empty p w q))
-
-    pub val3 : (p : Use) (v B c : ℕ) → slot tb p ≡ val v B c
-        → S3 .tok p ≡ put (given (only tb L e3) (some (wireOf tb v B))) (drop (taken (only tb L e3) p) (put (given (only tb L e2) (some (wireOf tb v B))) (drop (taken (only tb L e2) p)
-        (put (given (only tb L e1) (some (wireOf tb v B))) (drop (taken (only tb L e1) p) (s .tok p))))))
-    val3 p v B c q =
-        ap (λ (z : Slot). put (given (only tb L e3) (slotWire tb z)) (drop (taken (only tb L e3) p) (put (given (only tb L e2) (slotWire tb z)) (drop (taken (only tb L e2) p)
-        (put (given (only tb L e1) (slotWire tb z)) (drop (taken (only tb L e1) p) (s .tok p))))))) q
 
     pub own3 : (n : Role) → inLoop tb L n ≡ true → S3 .own n ≡ nextBy (e3 n) (nextBy (e2 n) (nextBy (e1 n) (s .own n)))
     own3 n h = own-in e3 S2 n h ∙ ap (nextBy (e3 n)) (own-in e2 S1 n h ∙ ap (nextBy (e2 n)) (own-in e1 s n h))

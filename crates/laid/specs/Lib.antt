@@ -17,3 +17,4 @@ pub mod Counts
 pub mod Wired
 pub mod Sourced
 pub mod Scanned
+pub mod Those

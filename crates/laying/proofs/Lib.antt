@@ -1,6 +1,5 @@
 -- The laws that the proofs of the functions cite.
 pub mod Putting
-pub mod Those
 pub mod Copies
 pub mod Uses
 pub mod Nodes

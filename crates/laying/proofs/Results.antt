@@ -26,7 +26,7 @@ use Rattle.laid.specs.Sourced.{operandNumber}
 use Rattle.written.specs.Plain.{Outs}
 use Rattle.carrying.specs.Kept.{Passing}
 use Rattle.laying.specs.Rows.{Operands, OutsLaid}
-use Rattle.laying.proofs.Those.{none-yet, one-more, no-more, at-most-all}
+use Rattle.laid.specs.Those.{none-yet, one-more, no-more, those-few}
 use Rattle.laying.proofs.Nodes.{one-operand}
 
 pub no-outs : (t outs : List ℕ) → length outs ≡ 512 → OutsLaid t 0 0 outs
@@ -49,7 +49,7 @@ module _ (t : List ℕ) (n : ℕ) (P : Passing t n) where
   S = right-table-has-structure t (P .right)
 
   pub out-fits : (r k : ℕ) (outs : List ℕ) → r < n → OutsLaid t r k outs → k < 512
-  out-fits r k outs l O = let a = at-most-all (isOut t) r in let c = O .count in let f = P .few in omega arith
+  out-fits r k outs l O = let a = those-few (isOut t) r in let c = O .count in let f = P .few in omega arith
 
   pub out-laid : (at : List ℕ) → Operands t at → (r k kind w : ℕ) (outs : List ℕ) → r < n → OutsLaid t r k outs → kind ≡ kindOf t r → kind ≡ 8 → w ≡ getD at (3 * r) 0 → OutsLaid t (r + 1) (k + 1) (set outs k w)
   out-laid at K r k kind w outs l O e d ew =

@@ -22,7 +22,7 @@ use Rattle.carrying.specs.Kept.{Passing, OnTheWay, IsUse, UseOrNone, Uses, home
 use Rattle.carrying.specs.Homes.{home-from-bases}
 use Rattle.carrying.proofs.Linking.{at-most-three}
 use Rattle.laying.specs.Entering.{RightCopy, Sound, Resolved, Carries}
-use Rattle.laying.proofs.Those
+use Rattle.laid.specs.Those
 use Rattle.laying.specs.Using.{Counting, UseAt, UseRight, UseResolved, UsingRight, Using, UsesRight, UsesResolved, ValuesRight, Values}
 
 place-after : (t : List ℕ) (L v : ℕ) → carried t L v ≡ true → copyPlace t L (suc v) ≡ suc (copyPlace t L v)

@@ -16,7 +16,7 @@ use Rattle.laying.specs.Entering.{Room}
 use Rattle.laying.specs.Using.{Counting, Values}
 use Rattle.laying.specs.Rows.{Noted, Operands, Known, RowsLaid}
 use Rattle.laying.proofs.Nodes.{base-below}
-use Rattle.laying.proofs.Those.{none-yet, at-most-all}
+use Rattle.laid.specs.Those.{none-yet, those-few}
 
 pub zeros : (m i : ℕ) → getD {A = ℕ} (replicate m 0) i 0 ≡ 0
 zeros zero i = refl
@@ -32,7 +32,7 @@ no-copies t L = none-yet (carried t L)
 
 few-copies : (t : List ℕ) (L : ℕ) → length (carriedInto t L) ≤ size t
 unfolding carriedInto
-few-copies t L = at-most-all (carried t L) (size t)
+few-copies t L = those-few (carried t L) (size t)
 
 pub none-entered : (t : List ℕ) → Counting t 0 (replicate 512 0) (replicate 512 0)
 none-entered t =

@@ -15,9 +15,9 @@ use Rattle.lowered.specs.Lower.{plainNodes, plainWires, nodeTotal, wireTotal, s
 use Rattle.lowered.specs.Room.{hasRoom}
 use Rattle.written.specs.Plain.{Laid, Outs}
 use Rattle.written.specs.Numbers.{useCount}
-use Rattle.lowering.specs.Tallied.{Below, tallied-below}
-use Rattle.lowering.specs.Forked.{Freed}
-use Rattle.lowering.specs.Written.{rowInputs, rowOuts, Scratch, usesOf, joined-long}
+use Rattle.forking.specs.Tallied.{Below, tallied-below}
+use Rattle.forking.specs.Forked.{Freed}
+use Rattle.forking.specs.Written.{rowInputs, rowOuts, Scratch, usesOf, joined-long}
 use Rattle.lowering.specs.Ready.{starts-few, results-few, scratch-of, uses-of, wires-added, wire-total-of, node-total-of, Counted, Ready, Measured}
 
 -- ---- over a limit

@@ -12,12 +12,12 @@ use Rattle.laid.specs.Indexed.{joined-same}
 use Rattle.laid.specs.Words.{words-long}
 use Rattle.written.specs.Words.{resultWords, forkWordsAt, lowered-by-number}
 use Rattle.written.specs.Words as words
-use Rattle.lowering.specs.Tallied.{tallied, none-tallied}
-use Rattle.lowering.specs.Forked.{nodesBy, forkWordsBy}
-use Rattle.lowering.specs.Written.{rowInputs, rowWords, outWords, sets-append, joined-long}
-use Rattle.lowering.specs.Sorted.{sortedRows, sorts-of}
+use Rattle.forking.specs.Tallied.{tallied, none-tallied}
+use Rattle.forking.specs.Forked.{nodesBy, forkWordsBy}
+use Rattle.forking.specs.Written.{rowInputs, rowWords, outWords, sets-append, joined-long}
+use Rattle.forking.specs.Sorted.{sortedRows, sorts-of}
 use Rattle.lowering.specs.Ready.{starts-few, starts-are-rows, results-few, node-total-of, Counted, Ready, ready-results, ready-rows, ready-forks}
-use Rattle.lowering.proofs.Words.{starts-long}
+use Rattle.forking.proofs.Words.{starts-long}
 
 -- the room that the parts need
 pub record Rooms (t uses : List ℕ) (P W S R G : ℕ) : Type 0 where

@@ -1,7 +1,3 @@
--- The last stage of lowering by number: uses tallied, forks numbered, the words written one after another.
-pub mod Tallied
-pub mod Forked
-pub mod Written
-pub mod Sorted
+-- What the entries for tables keep and answer.
 pub mod Ready
 pub mod Answers

@@ -1,6 +1,5 @@
 -- Scratch rows that are right for a table: what is tallied, noted and written from them is what the table's graph has.
 --
---   those-few             no more rows pass a test than there are
 --   scratch-of            every source has a place
 --   Counted               the counts are known
 --   Ready                 the scratch is right, the tables are filled
@@ -29,29 +28,17 @@ use Rattle.lowered.specs.Roles.{result}
 use Rattle.lowered.specs.Lower.{roles, isStart, startRows, isOut, outRows, plainNodes, plainWires, nodeTotal, wireTotal, startTotal, resultTotal}
 use Rattle.lowered.specs.Room.{hasRoom}
 use Rattle.laid.specs.Lists.{has-elem}
+use Rattle.laid.specs.Those.{those-few}
 use Rattle.laid.specs.Indexed.{joined-same, total-same}
 use Rattle.laid.specs.Counts.{sourceNumber, forkSum, forkCount, wire-total-by-numbers, node-total-by-numbers}
 use Rattle.written.specs.Plain.{inputNumber, Laid, Outs}
 use Rattle.written.specs.Numbers.{inputsOf, inputsAt, outOf, outAt, useCount, freeFrom, standsAt, uses-counted, input0-stands, input1-stands, input2-stands, input-below, out-below, result-stands}
 use Rattle.written.specs.Words.{wireSortAt, forkWordsAt, resultWords}
 use Rattle.written.specs.Words as words
-use Rattle.lowering.specs.Tallied.{Place, Below, oneMore, tallied, tallied-append, tallied-at}
-use Rattle.lowering.specs.Sorted.{node-there}
-use Rattle.lowering.specs.Forked.{nodesBy, wiresBy, addedNodes, forkWords, forkWordsBy}
-use Rattle.lowering.specs.Written.{rowInputs, rowOuts, Sourced, standOf, rowWords, outWords, Scratch, usesOf}
-
-pub those-few : (test : ℕ → Bool) (n : ℕ) → length (those test n) ≤ n
-unfolding those
-those-few test zero = omega arith
-those-few test (suc n) =
-    let r = those-few test n in
-    let a = length-append (those test n) (cond (test n) (n ∷ []) []) in
-    let f = go (test n) in
-    omega arith
-  where
-    go : (b : Bool) → length (cond b (n ∷ []) []) ≤ 1
-    go true = omega arith
-    go false = omega arith
+use Rattle.forking.specs.Tallied.{Place, Below, oneMore, tallied, tallied-append, tallied-at}
+use Rattle.forking.specs.Sorted.{node-there}
+use Rattle.forking.specs.Forked.{nodesBy, wiresBy, addedNodes, forkWords, forkWordsBy}
+use Rattle.forking.specs.Written.{rowInputs, rowOuts, Sourced, standOf, rowWords, outWords, Scratch, usesOf}
 
 three-same : {a b c x y z : ℕ} → a ≡ x → b ≡ y → c ≡ z → a ∷ b ∷ c ∷ [] ≡ x ∷ y ∷ z ∷ []
 three-same p q r = rw (p, q, r)

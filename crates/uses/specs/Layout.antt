@@ -24,9 +24,10 @@ use Rattle.step.specs.Machines.{rest}
 use Rattle.step.specs.Locality.{every-program-is-local}
 use Rattle.state.specs.Net.{Net}
 use Rattle.confluence.specs.Histories.{putOn, puts}
+use Rattle.lowered.specs.Lists.{Among, Once}
 use Rattle.lowered.specs.Roles.{Role, sameRole, Wire, start, output, Use, into, result}
-use Rattle.uses.specs.Machine.{Plan, State, giveBy, takeBy, nextBy, put, drop, listed, given, taken, viewOf, Among, after, one, one-same, one-other, Ready, Steps}
-use Rattle.uses.specs.Wires.{Tokens, vacant, inTok, hasSpace, clearTok, fillTok, recBy, view2, fire2, Steps2, steps2-append, puts2, puts2-append, Has, Once, Spread, below, nodes, OneOf, Spreads, uses-in, spread}
+use Rattle.uses.specs.Machine.{Plan, State, giveBy, takeBy, nextBy, put, drop, listed, given, taken, viewOf, after, one, one-same, one-other, Ready, Steps}
+use Rattle.uses.specs.Wires.{Tokens, vacant, inTok, hasSpace, clearTok, fillTok, recBy, view2, fire2, Steps2, steps2-append, puts2, puts2-append, puts2-both, Spread, below, nodes, OneOf, Spreads, uses-in, spread}
 
 not-both : {A : Type 0} (o : Option ℕ) (y : ℕ) → o ≡ none → o ≡ some y → A
 not-both o y a b = let z : _≡_ {A = ℕ} 0 1 = cc in absurd (omega arith)
@@ -53,19 +54,19 @@ pub record Layout (plan : Plan) (net : Net) : Type 0 where
   pub forks : Wire → List ℕ
   pub sp : (w : Wire) → Made plan w → (s : Spread net pw (ww w) (users w)) × (below net pw s ≡ tail w) × (nodes net pw s ≡ forks w)
   pub tree-once : (w : Wire) → Made plan w → Once (ww w ∷ tail w)
-  pub tree-apart : (w u : Wire) → Made plan w → Made plan u → (x : ℕ) → Has x (ww w ∷ tail w) → Has x (ww u ∷ tail u) → w ≡ u
+  pub tree-apart : (w u : Wire) → Made plan w → Made plan u → (x : ℕ) → Among x (ww w ∷ tail w) → Among x (ww u ∷ tail u) → w ≡ u
   pub users-full : (p : Use) (w : Wire) → plan .source p ≡ some w → Among p (users w) × Made plan w
   pub users-sound : (p : Use) (w : Wire) → Made plan w → Among p (users w) → plan .source p ≡ some w
   pub pw-inj : (p r : Use) (w u : Wire) → plan .source p ≡ some w → plan .source r ≡ some u → pw p ≡ pw r → p ≡ r
   pub num-inj : (n m : Role) → plan .Real n → plan .Real m → num n ≡ num m → n ≡ m
-  pub aside : (n : Role) → plan .Real n → (w : Wire) → Made plan w → Has (num n) (forks w) → ⊥
+  pub aside : (n : Role) → plan .Real n → (w : Wire) → Made plan w → Among (num n) (forks w) → ⊥
   pub ins : (n : Role) → plan .Real n → (k : Input) → net .input (num n) k ≡ wireIf (plan .source (into n k)) (pw (into n k))
   pub outs : (n : Role) → plan .Real n → (o : Output) → plan .HasOut n o → net .output (num n) o ≡ some (ww (output n o))
   pub does : (n : Role) → plan .Real n → (v : View) → net .node (num n) v ≡ perform (plan .does n (v .own)) v
 
 module _ (plan : Plan) (net : Net) (y : Layout plan net) where
   abbrev pub Tree : ℕ → Wire → Type 0
-  Tree x w = Has x (y .ww w ∷ y .tail w)
+  Tree x w = Among x (y .ww w ∷ y .tail w)
 
   -- x is the wire of one of w's uses
   abbrev pub UseOf : ℕ → Wire → Type 0
@@ -76,7 +77,7 @@ module _ (plan : Plan) (net : Net) (y : Layout plan net) where
     pub at-use : (p : Use) (w : Wire) → plan .source p ≡ some w → Z .wt (y .pw p) ≡ s .tok p
     pub between : (w : Wire) → Made plan w → (x : ℕ) → Tree x w → (UseOf x w → ⊥) → Z .wt x ≡ none
     pub at-node : (n : Role) → plan .Real n → Z .wr (y .num n) ≡ s .own n
-    pub at-fork : (w : Wire) → Made plan w → (i : ℕ) → Has i (y .forks w) → Z .wr i ≡ rest
+    pub at-fork : (w : Wire) → Made plan w → (i : ℕ) → Among i (y .forks w) → Z .wr i ≡ rest
     pub nowhere : (p : Use) → plan .source p ≡ none → s .tok p ≡ none
 
   -- ---- wires and trees
@@ -104,7 +105,7 @@ module _ (plan : Plan) (net : Net) (y : Layout plan net) where
   among-use p (x ∷ ps) (inr h) = inr (among-use p ps h)
 
   pub use-tree : (x : ℕ) (w : Wire) → Made plan w → UseOf x w → Tree x w
-  use-tree x w m h = subst (λ (l : List ℕ). Has x (y .ww w ∷ l)) (y .sp w m .1) (uses-in net (y .pw) (y .sp w m .0) x h)
+  use-tree x w m h = subst (λ (l : List ℕ). Among x (y .ww w ∷ l)) (y .sp w m .1) (uses-in net (y .pw) (y .sp w m .0) x h)
 
   pub use-in-tree : (p : Use) (w : Wire) → plan .source p ≡ some w → Tree (y .pw p) w
   use-in-tree p w h = let u = y .users-full p w h in use-tree (y .pw p) w (u .1) (among-use p (y .users w) (u .0))
@@ -278,14 +279,14 @@ module _ (plan : Plan) (net : Net) (y : Layout plan net) where
         back in2 h = h
 
     -- below the root a given tree is still empty
-    below1 : (o : Output) (z : ℕ) → gives e o ≡ some z → (x : ℕ) → Has x (y .tail (output n o)) → Z1 .wt x ≡ none
+    below1 : (o : Output) (z : ℕ) → gives e o ≡ some z → (x : ℕ) → Among x (y .tail (output n o)) → Z1 .wt x ≡ none
     below1 o z h x t =
         else1 x (λ o′ z′ h′ c. roots o o′ z z′ h h′ t c)
         ∙ clear-else x (taken-not o z h x (inr t)) ∙ free-tree o z h x (inr t)
       where
-        roots : (o o′ : Output) (z z′ : ℕ) → gives e o ≡ some z → gives e o′ ≡ some z′ → Has x (y .tail (output n o)) → x ≡ y .ww (output n o′) → ⊥
-        roots out0 out0 z z′ h h′ t c = y .tree-once (output n out0) (made out0 z h) .0 (subst (λ (w : ℕ). Has w (y .tail (output n out0))) c t)
-        roots out1 out1 z z′ h h′ t c = y .tree-once (output n out1) (made out1 z h) .0 (subst (λ (w : ℕ). Has w (y .tail (output n out1))) c t)
+        roots : (o o′ : Output) (z z′ : ℕ) → gives e o ≡ some z → gives e o′ ≡ some z′ → Among x (y .tail (output n o)) → x ≡ y .ww (output n o′) → ⊥
+        roots out0 out0 z z′ h h′ t c = y .tree-once (output n out0) (made out0 z h) .0 (subst (λ (w : ℕ). Among w (y .tail (output n out0))) c t)
+        roots out1 out1 z z′ h h′ t c = y .tree-once (output n out1) (made out1 z h) .0 (subst (λ (w : ℕ). Among w (y .tail (output n out1))) c t)
         roots out0 out1 z z′ h h′ t c = o-apart x (some-not (gives e out0) z h) (some-not (gives e out1) z′ h′) (inr t) (inl c)
         roots out1 out0 z z′ h h′ t c = o-apart x (some-not (gives e out0) z′ h′) (some-not (gives e out1) z h) (inl c) (inr t)
 
@@ -300,10 +301,10 @@ module _ (plan : Plan) (net : Net) (y : Layout plan net) where
               ∙ R .at-node m rm ∙ sym (ap (λ (z : Option Effect). nextBy z (s .own m)) (one-other n m e d))
         ]
 
-    fork1 : (w : Wire) → Made plan w → (j : ℕ) → Has j (y .forks w) → Z1 .wr j ≡ rest
+    fork1 : (w : Wire) → Made plan w → (j : ℕ) → Among j (y .forks w) → Z1 .wr j ≡ rest
     unfolding fire2 i
     fork1 w m j h =
-        ap (λ (b : Bool). recBy b (e .next) (Z .wr j)) (ne-eqb j (y .num n) (λ c. y .aside n rl w m (subst (λ (z : ℕ). Has z (y .forks w)) c h))) ∙ R .at-fork w m j h
+        ap (λ (b : Bool). recBy b (e .next) (Z .wr j)) (ne-eqb j (y .num n) (λ c. y .aside n rl w m (subst (λ (z : ℕ). Among z (y .forks w)) c h))) ∙ R .at-fork w m j h
 
     -- ---- the spread of one output
     record Gone (o : Output) (A B : Tokens) : Type 0 where
@@ -312,20 +313,20 @@ module _ (plan : Plan) (net : Net) (y : Layout plan net) where
       same : (x : ℕ) → ((z : ℕ) → gives e o ≡ some z → Tree x (output n o) → ⊥) → B .wt x ≡ A .wt x
       recs : (j : ℕ) → B .wr j ≡ A .wr j
 
-    go-out : (o : Output) (A : Tokens) → ((z : ℕ) → gives e o ≡ some z → A .wt (y .ww (output n o)) ≡ some z) → ((z : ℕ) → gives e o ≡ some z → (x : ℕ) → Has x (y .tail (output n o)) → A .wt x ≡ none)
-        → ((z : ℕ) → gives e o ≡ some z → (j : ℕ) → Has j (y .forks (output n o)) → A .wr j ≡ rest) → (is : List ℕ) × (B : Tokens) × (q : Steps2 net is A B) × Gone o A B
-        × ((w : ℕ) → ((z : ℕ) → gives e o ≡ some z → Has w (y .tail (output n o)) → ⊥) → puts2 net is A B q w ≡ [])
+    go-out : (o : Output) (A : Tokens) → ((z : ℕ) → gives e o ≡ some z → A .wt (y .ww (output n o)) ≡ some z) → ((z : ℕ) → gives e o ≡ some z → (x : ℕ) → Among x (y .tail (output n o)) → A .wt x ≡ none)
+        → ((z : ℕ) → gives e o ≡ some z → (j : ℕ) → Among j (y .forks (output n o)) → A .wr j ≡ rest) → (is : List ℕ) × (B : Tokens) × (q : Steps2 net is A B) × Gone o A B
+        × ((w : ℕ) → ((z : ℕ) → gives e o ≡ some z → Among w (y .tail (output n o)) → ⊥) → puts2 net is A B q w ≡ [])
     go-out o A h1 h2 h3 = go (gives e o) refl
       where
         go : (g : Option ℕ) → gives e o ≡ g → (is : List ℕ) × (B : Tokens) × (q : Steps2 net is A B) × Gone o A B
-            × ((w : ℕ) → ((z : ℕ) → gives e o ≡ some z → Has w (y .tail (output n o)) → ⊥) → puts2 net is A B q w ≡ [])
+            × ((w : ℕ) → ((z : ℕ) → gives e o ≡ some z → Among w (y .tail (output n o)) → ⊥) → puts2 net is A B q w ≡ [])
         go none q =
             ([], A, refl, record { hit = λ z h. not-both (gives e o) z q h; miss = λ z h. not-both (gives e o) z q h; same = λ x h. refl; recs = λ j. refl }, λ w h. refl)
         go (some z) q =
             let m = made o z q in
             let p = y .sp (output n o) m in
             let r = spread net (y .pw) (p .0) z A (h1 z q) (subst (λ (l : List ℕ). Once (y .ww (output n o) ∷ l)) (sym (p .1)) (y .tree-once (output n o) m))
-            (λ x h. h2 z q x (subst (λ (l : List ℕ). Has x l) (p .1) h)) (λ j h. h3 z q j (subst (λ (l : List ℕ). Has j l) (p .2) h)) in
+            (λ x h. h2 z q x (subst (λ (l : List ℕ). Among x l) (p .1) h)) (λ j h. h3 z q j (subst (λ (l : List ℕ). Among j l) (p .2) h)) in
             let u = r .3 in (
               r .0,
               r .1,
@@ -336,13 +337,13 @@ module _ (plan : Plan) (net : Net) (y : Layout plan net) where
                 same = λ x h. u .others x (λ c. h z q (inl c)) (λ k. h z q (use-tree x (output n o) m k));
                 recs = u .recs;
               },
-              λ w h. r .4 w (λ k. h z q (subst (λ (l : List ℕ). Has w l) (p .1) k)),
+              λ w h. r .4 w (λ k. h z q (subst (λ (l : List ℕ). Among w l) (p .1) k)),
             )
           where
             missing : (B : Tokens) → Spreads net (y .pw) (y .ww (output n o)) z (y .users (output n o)) A B → (x : ℕ) → Tree x (output n o) → (UseOf x (output n o) → ⊥) → B .wt x ≡ none
             missing B u x (inl c) k = ap (B .wt) c ∙ u .root (λ t. k (subst (λ (w : ℕ). UseOf w (output n o)) (sym c) t))
             missing B u x (inr t) k =
-                u .others x (λ c. y .tree-once (output n o) (made o z q) .0 (subst (λ (w : ℕ). Has w (y .tail (output n o))) c t)) k ∙ h2 z q x t
+                u .others x (λ c. y .tree-once (output n o) (made o z q) .0 (subst (λ (w : ℕ). Among w (y .tail (output n o))) c t)) k ∙ h2 z q x t
 
     -- ---- both outputs
     given-cases : (w : Wire) (z : ℕ) → given (one n e) (some w) ≡ some z → (o : Output) × (w ≡ output n o) × (gives e o ≡ some z)
@@ -478,10 +479,18 @@ module _ (plan : Plan) (net : Net) (y : Layout plan net) where
             ∙ ap₂ {C = List ℕ} (λ a b. a ++ b) (on-none (net .output i out0) (e .gives0) (y .ww (output n out1)) (away-from out0 n out1 mo (λ c. let c′ : out0 ≡ out1 = cc in let z : _≡_ {A = ℕ} 0 1 = cc in omega arith)))
             (on-own (net .output i out1) (e .gives1) (y .ww (output n out1)) (λ z h. out-wire out1 z h))
 
-    root-not-tail : (m : Role) (o : Output) → Made plan (output m o) → (o′ : Output) (z : ℕ) → gives e o′ ≡ some z → Has (y .ww (output m o)) (y .tail (output n o′)) → ⊥
+    root-not-tail : (m : Role) (o : Output) → Made plan (output m o) → (o′ : Output) (z : ℕ) → gives e o′ ≡ some z → Among (y .ww (output m o)) (y .tail (output n o′)) → ⊥
     root-not-tail m o mm o′ z h t =
         let d : output n o′ ≡ output m o = y .tree-apart (output n o′) (output m o) (made o′ z h) mm (y .ww (output m o)) (inr t) (inl refl) in
-        y .tree-once (output m o) mm .0 (subst (λ (w : Wire). Has (y .ww (output m o)) (y .tail w)) d t)
+        y .tree-once (output m o) mm .0 (subst (λ (w : Wire). Among (y .ww (output m o)) (y .tail w)) d t)
+
+    -- the node's words; what follows it puts none on an output
+    fire-words : (m : Role) (o : Output) → Made plan (output m o) → (xs ys : List ℕ) (A B : Tokens) (p : Steps2 net xs Z1 A) (r : Steps2 net ys A B)
+        → puts2 net xs Z1 A p (y .ww (output m o)) ≡ [] → puts2 net ys A B r (y .ww (output m o)) ≡ []
+        → s .hist m o ++ (puts net i e (y .ww (output m o)) ++ puts2 net (xs ++ ys) Z1 B (steps2-append net xs ys Z1 A B p r) (y .ww (output m o))) ≡ after plan (one n e) s .hist m o
+    fire-words m o mm xs ys A B p r a b =
+        ap (λ (l : List ℕ). s .hist m o ++ l)
+        (ap₂ {C = List ℕ} (λ x z. x ++ z) (node-puts m o mm) (puts2-both net xs ys Z1 A B p r (y .ww (output m o)) [] [] a b) ∙ append-nil (listed (giveBy (one n e m) o)))
 
     -- ONE FIRING: the node, then the forks or the drain of what it gave
     pub fire-shown : (is : List ℕ) × (B : Tokens) × (q : Steps2 net is Z B) × Shown B (after plan (one n e) s)
@@ -498,11 +507,7 @@ module _ (plan : Plan) (net : Net) (y : Layout plan net) where
           r1 .1,
           (e, fires, steps2-append net (r0 .0) (r1 .0) Z1 A (r1 .1) (r0 .2) (r1 .2)),
           shown3 A (r1 .1) a (r1 .3),
-          λ m o mm. ap (λ (l : List ℕ). s .hist m o ++ l)
-              (ap₂ {C = List ℕ} (λ x z. x ++ z) (node-puts m o mm)
-              (puts2-append net (r0 .0) (r1 .0) Z1 A (r1 .1) (r0 .2) (r1 .2) (y .ww (output m o))
-              ∙ ap₂ {C = List ℕ} (λ x z. x ++ z) (r0 .4 (y .ww (output m o)) (root-not-tail m o mm out0)) (r1 .4 (y .ww (output m o)) (root-not-tail m o mm out1)))
-              ∙ append-nil (listed (giveBy (one n e m) o))),
+          λ m o mm. fire-words m o mm (r0 .0) (r1 .0) A (r1 .1) (r0 .2) (r1 .2) (r0 .4 (y .ww (output m o)) (root-not-tail m o mm out0)) (r1 .4 (y .ww (output m o)) (root-not-tail m o mm out1)),
         )
 
   -- A RUN of the use machine is one of the real graph

@@ -19,16 +19,8 @@ use Rattle.step.specs.Kinds.{Input, in0, in1, in2, Output, out0, out1}
 use Rattle.step.specs.Firing.{View, Effect, Program, perform, waits, room, takes, gives}
 use Rattle.step.specs.Locality.{every-program-is-local}
 use Rattle.step.specs.declared.Record.{Record}
+use Rattle.lowered.specs.Lists.{Among, Once}
 use Rattle.lowered.specs.Roles.{Role, sameRole, Wire, start, output, Use, into, result}
-
-module _ {A : Type 0} where
-  abbrev pub Among : A → List A → Type 0
-  Among n [] = ⊥
-  Among n (x ∷ xs) = (n ≡ x) ⊎ Among n xs
-
-  abbrev pub Once : List A → Type 0
-  Once [] = Unit {0}
-  Once (x ∷ xs) = (Among x xs → ⊥) × Once xs
 
 -- which roles there are, what each does by its record, the outputs it has, the starts that there are, and the wire that each use reads
 pub record Plan : Type 1 where

@@ -24,6 +24,7 @@ use Rattle.step.specs.Machines.{program, rest}
 use Rattle.step.specs.declared.Record.{Record}
 use Rattle.state.specs.Net.{Net}
 use Rattle.confluence.specs.Histories.{putOn, puts}
+use Rattle.lowered.specs.Lists.{Among, Once}
 
 pub record Tokens : Type 0 where
   pub wt : ℕ → Option ℕ
@@ -58,6 +59,10 @@ fillTok (some u) (some x) w t = cut (eqb u w) (some x) t
 abbrev pub recBy : Bool → Record → Record → Record
 recBy true x t = x
 recBy false x t = t
+
+-- with its lists written out, so that no call has to find them
+joined : (a b l m : List ℕ) → a ≡ l → b ≡ m → a ++ b ≡ l ++ m
+joined a b l m p q = ap₂ {C = List ℕ} (λ x y. x ++ y) p q
 
 module _ (net : Net) where
   abbrev pub view2 : Tokens → ℕ → View
@@ -103,13 +108,10 @@ module _ (net : Net) where
         ap (λ (l : List ℕ). puts net i (r .0) w ++ l) (puts2-append xs ys (fire2 i (r .0) Z) U X (r .2) q w)
         ∙ sym (append-assoc (puts net i (r .0) w) (puts2 xs (fire2 i (r .0) Z) U (r .2) w) (puts2 ys U X q w))
 
-abbrev pub Has : ℕ → List ℕ → Type 0
-Has w [] = ⊥
-Has w (x ∷ xs) = (w ≡ x) ⊎ Has w xs
-
-abbrev pub Once : List ℕ → Type 0
-Once [] = Unit {0}
-Once (x ∷ xs) = (Has x xs → ⊥) × Once xs
+    -- so, where both are known
+    pub puts2-both : (xs ys : List ℕ) (Z U X : Tokens) (r : Steps2 xs Z U) (q : Steps2 ys U X) (w : ℕ) (l m : List ℕ) → puts2 xs Z U r w ≡ l → puts2 ys U X q w ≡ m
+        → puts2 (xs ++ ys) Z X (steps2-append xs ys Z U X r q) w ≡ l ++ m
+    puts2-both xs ys Z U X r q w l m a b = puts2-append xs ys Z U X r q w ∙ joined (puts2 xs Z U r w) (puts2 ys U X q w) l m a b
 
 module _ (net : Net) where
   pub record IsFork (f x y1 y2 : ℕ) : Type 0 where
@@ -210,7 +212,7 @@ module _ (net : Net) where
     unfolding fire2
     kept-wr i e Z h j = rec-kept i j (e .next) (Z .wr j) (λ c. ap (Z .wr) c ∙ h)
 
-    pub uses-in : {x : ℕ} {ps : List P} (s : Spread x ps) (z : ℕ) → OneOf z ps → Has z (x ∷ below s)
+    pub uses-in : {x : ℕ} {ps : List P} (s : Spread x ps) (z : ℕ) → OneOf z ps → Among z (x ∷ below s)
     uses-in (drained d h) z k = absurd k
     uses-in (alone p h) z (inl k) = inl (k ∙ h)
     uses-in (alone p h) z (inr k) = absurd k
@@ -269,8 +271,8 @@ module _ (net : Net) where
               | no c ↦ u .others z c (λ d. m (inr d)) ∙ at-z f x y1 y2 y Z h z (λ d. c (sym d)) (λ d. m (inl (sym d ∙ sym k))) (λ d. n (sym d))
             ]
 
-    pub spread : {x : ℕ} {ps : List P} (s : Spread x ps) (y : ℕ) (Z : Tokens) → Z .wt x ≡ some y → Once (x ∷ below s) → ((z : ℕ) → Has z (below s) → Z .wt z ≡ none)
-        → ((i : ℕ) → Has i (nodes s) → Z .wr i ≡ rest) → (is : List ℕ) × (U : Tokens) × (q : Steps2 net is Z U) × Spreads x y ps Z U × ((w : ℕ) → (Has w (below s) → ⊥) → puts2 net is Z U q w ≡ [])
+    pub spread : {x : ℕ} {ps : List P} (s : Spread x ps) (y : ℕ) (Z : Tokens) → Z .wt x ≡ some y → Once (x ∷ below s) → ((z : ℕ) → Among z (below s) → Z .wt z ≡ none)
+        → ((i : ℕ) → Among i (nodes s) → Z .wr i ≡ rest) → (is : List ℕ) × (U : Tokens) × (q : Steps2 net is Z U) × Spreads x y ps Z U × ((w : ℕ) → (Among w (below s) → ⊥) → puts2 net is Z U q w ≡ [])
     unfolding puts
     spread {x = x} (drained d h) y Z e o b r = (
       d ∷ [],
@@ -286,13 +288,13 @@ module _ (net : Net) where
         one z (inr k) = absurd k
     spread {x = x} (forked p f y1 y2 h k s) y Z e o b r =
         let ih = spread s y (fire2 net f (forkEff y) Z) (at-y2 f x y1 y2 y Z h) (o .1 .1)
-        (λ z m. at-z f x y1 y2 y Z h z (λ c. o .1 .1 .0 (subst (λ (w : ℕ). Has w (below s)) (sym c) m)) (λ c. o .1 .0 (inr (subst (λ (w : ℕ). Has w (below s)) (sym c) m)))
-        (λ c. o .0 (inr (inr (subst (λ (w : ℕ). Has w (below s)) (sym c) m)))) ∙ b z (inr (inr m)))
+        (λ z m. at-z f x y1 y2 y Z h z (λ c. o .1 .1 .0 (subst (λ (w : ℕ). Among w (below s)) (sym c) m)) (λ c. o .1 .0 (inr (subst (λ (w : ℕ). Among w (below s)) (sym c) m)))
+        (λ c. o .0 (inr (inr (subst (λ (w : ℕ). Among w (below s)) (sym c) m)))) ∙ b z (inr (inr m)))
         (λ i m. kept-wr f (forkEff y) Z (r f (inl refl)) i ∙ r i (inr m)) in (
           f ∷ ih .0,
           ih .1,
           (forkEff y, fork-fires f x y1 y2 y Z h e (b y1 (inl refl)) (b y2 (inr (inl refl))) (r f (inl refl)), ih .2),
           fork-spreads p f x y1 y2 y Z (ih .1) h k s o (b y2 (inr (inl refl))) (r f (inl refl)) (ih .3),
-          λ w n. ap₂ {C = List ℕ} (λ l m. l ++ m) (on-two (net .output f out0) (net .output f out1) (some y) (some y) w (λ u c d. n (inl (is-some u y1 w (sym c ∙ h .leg0) d))) (λ u c d. n (inr (inl (is-some u y2 w (sym c ∙ h .leg1) d)))))
+          λ w n. joined (puts net f (forkEff y) w) (puts2 net (ih .0) (fire2 net f (forkEff y) Z) (ih .1) (ih .2) w) [] [] (on-two (net .output f out0) (net .output f out1) (some y) (some y) w (λ u c d. n (inl (is-some u y1 w (sym c ∙ h .leg0) d))) (λ u c d. n (inr (inl (is-some u y2 w (sym c ∙ h .leg1) d)))))
               (ih .4 w (λ m. n (inr (inr m)))),
         )

@@ -5,7 +5,7 @@ use mathlib.Core.Path.{refl}
 use native.Mathlib.Omega.{arith}
 use borrow.Author.Needs.{needs}
 use lib.ListN.{length-replicate}
-use Rattle.lowering.specs.Tallied.{none-tallied}
+use Rattle.forking.specs.Tallied.{none-tallied}
 use Rattle.lowering.proofs.Answers.{words-are, few-rows, passing, lower-refused, lower-crowded, lower-lent, lower-done}
 use Rattle.lowering.proofs.lower.Statement.{statement}
 use Rattle.lowering.proofs.lower.Tie as tie

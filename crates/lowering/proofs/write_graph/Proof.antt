@@ -6,11 +6,11 @@ use borrow.Author.Needs.{needs}
 use lib.ListN.{length}
 use Rattle.graph.specs.Below.{joined}
 use Rattle.lowering.specs.Ready.{scratch-of}
-use Rattle.lowering.specs.Sorted.{outputs-fit}
-use Rattle.lowering.specs.Written.{rowInputs, joined-long}
-use Rattle.lowering.specs.Tallied.{none-tallied}
+use Rattle.forking.specs.Sorted.{outputs-fit}
+use Rattle.forking.specs.Written.{rowInputs, joined-long}
+use Rattle.forking.specs.Tallied.{none-tallied}
 use Rattle.lowering.proofs.Whole.{rooms-of, graph-written}
-use Rattle.lowering.proofs.Uses.{looser, tally-below}
+use Rattle.forking.proofs.Uses.{looser, tally-below}
 use Rattle.lowering.proofs.write_graph.Statement.{statement}
 use Rattle.lowering.proofs.write_graph.Tie as tie
 
