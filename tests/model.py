@@ -1,12 +1,15 @@
 #!/usr/bin/env python3
-"""An independent model of graphs, states and runs, written from document 01 alone.
+"""An independent model of tables, lowering, graphs, states and runs, written from document 01 alone.
 
-  tests/model.py < calls        answers each line of the protocol of `rehearse calls`
-  tests/model.py cases          prints the calls of crates/graph_cases/stdin
-  tests/model.py draw < words   lists and draws a graph and its tokens, as crates/graph_drawn does
-  tests/model.py told           says of each of them what it shows, with the start of the answer
+  tests/model.py < calls            answers each line of the protocol of `rehearse calls`
+  tests/model.py cases              prints the calls of crates/graph_cases/stdin
+  tests/model.py lowering-cases     prints the calls of crates/lowering_cases/stdin
+  tests/model.py told               says of each call of the two what it shows, with the start of the answer
+  tests/model.py draw < words       lists and draws a graph and its tokens, as crates/graph_drawn does
+  tests/model.py trace < words      runs a graph and tells each firing, as crates/graph_rehearsed does
+  tests/model.py lower < table      the words of a table's graph, a line a row, as `rehearse lower` prints them
 
-It shares nothing with the library: states are Python objects here, and words only at the edges.
+It shares nothing with the library: tables, graphs and states are Python objects here, and words only at the edges.
 """
 import sys
 
@@ -264,6 +267,254 @@ def ended(graph, nodes, state):
     return 2, 0
 
 
+# Tables.
+
+INPUT, CONST, ROW_OP, ROW_PICK, FOR, ARG, NEXT, END, OUT = range(9)
+USED = [0, 1, 3, 3, 5, 1, 1, 0, 1]
+
+
+class Table:
+    """What the rows so far have opened. A body is the number of its FOR row, or None outside every loop."""
+
+    def __init__(self):
+        self.rows, self.open, self.around = [], [], {}
+        self.args, self.nexts, self.ended = {}, {}, set()
+        self.home, self.reads = [], []
+
+    def operands(self, row):
+        """(operand, wanted sort) in order."""
+        kind, a, b, c = row[:4]
+        if kind == ROW_OP: return [(b, 0), (c, 0)]
+        if kind == ROW_PICK: return [(a, 1), (b, 0), (c, 0)]
+        if kind == FOR: return [(a, 0), (b, 0), (c, 0)]
+        return [(a, 0)] if kind in (ARG, NEXT, OUT) else []
+
+    def sort(self, x):
+        return int(self.rows[x][0] == ROW_OP and self.rows[x][1] >= 3)
+
+    def bodies(self, kind):
+        """The bodies that are open where a row's operands are read: for ARG without its own loop, for FOR it is not open yet."""
+        return [None] + (self.open[:-1] if kind == ARG else self.open)
+
+    def placed(self, row):
+        kind, before = row[0], self.rows[-1][0] if self.rows else None
+        if before == OUT and kind != OUT: return False
+        if before == NEXT and kind not in (NEXT, END): return False
+        if kind in (INPUT, CONST): return all(r[0] in (INPUT, CONST) for r in self.rows)
+        if kind == ARG: return before in (FOR, ARG)
+        if kind == NEXT: return bool(self.open) and len(self.nexts[self.open[-1]]) < len(self.args[self.open[-1]])
+        if kind == END: return bool(self.open) and len(self.nexts[self.open[-1]]) == len(self.args[self.open[-1]])
+        return not self.open if kind == OUT else True
+
+    def visible(self, x, kind):
+        if x >= len(self.rows) or self.rows[x][0] > NEXT: return False
+        if self.home[x] not in self.bodies(kind): return False
+        return self.rows[x][0] != NEXT or any(x in self.nexts[f] for f in self.ended)
+
+    def refusal(self, row):
+        """Refusals 2 to 8 of the next row, lowest first."""
+        kind = row[0]
+        if kind > 8: return 2
+        if any(row[1 + USED[kind]:]): return 3
+        if kind == ROW_OP and row[1] > 7: return 4
+        if kind == FOR and (row[4] > 5 or row[5] > 4): return 4
+        if not self.placed(row): return 5
+        if kind == FOR and len(self.open) == 8: return 6
+        if not all(self.visible(x, kind) for x, _ in self.operands(row)): return 7
+        if any(self.sort(x) != sort for x, sort in self.operands(row)): return 8
+        return 0
+
+    def add(self, row):
+        kind, i = row[0], len(self.rows)
+        self.reads.append(self.bodies(kind)[-1])
+        if kind == FOR:
+            self.around[i] = self.open[-1] if self.open else None
+            self.open.append(i)
+            self.args[i], self.nexts[i] = [], []
+        if kind == ARG: self.args[self.open[-1]].append(i)
+        if kind == NEXT: self.nexts[self.open[-1]].append(i)
+        body = self.open[-1] if self.open else None
+        self.home.append(self.around[body] if kind == NEXT else body)
+        if kind == END: self.ended.add(self.open.pop())
+        self.rows.append(row)
+
+
+def read_table(words):
+    """The table that the words make, with refusal 1 to 9 and its row."""
+    if len(words) % 6 or not words or len(words) > 6 * 512: return None, 1, 0
+    table = Table()
+    for i in range(0, len(words), 6):
+        row = words[i:i + 6]
+        no = table.refusal(row)
+        if no: return None, no, i // 6
+        table.add(row)
+    if table.open or table.rows[-1][0] != OUT: return None, 9, len(table.rows)
+    return table, 0, 0
+
+
+class Lowering:
+    """Nodes with the wires they take, a wire being a start's row or a node's output: ('start', row) or (node, position)."""
+
+    def __init__(self, table):
+        self.table = t = table
+        self.starts = [i for i, r in enumerate(t.rows) if r[0] in (INPUT, CONST)]
+        self.nodes, self.streams, self.copies, self.served = [], {}, {}, {}
+        self.values, self.results = {}, []
+        self.carried = {f: sorted(x for x in range(len(t.rows)) if self.is_carried(x, f)) for f in t.around}
+        for i, row in enumerate(t.rows): self.lower_row(i, row)
+        for kind, _, _, ins in self.nodes:
+            # The next word of a CARRY comes from a row behind it.
+            for k, x in enumerate(ins):
+                if isinstance(x, tuple) and x[0] == 'next': ins[k] = self.source(*self.served[x[1]])
+
+    def within(self, body, loop):
+        while body is not None:
+            if body == loop: return True
+            body = self.table.around[body]
+        return False
+
+    def is_carried(self, x, loop):
+        """Home outside the loop, and an operand inside it at any depth."""
+        t = self.table
+        if t.rows[x][0] > NEXT or self.within(t.home[x], loop): return False
+        return any(x == y and self.within(t.reads[i], loop) for i, r in enumerate(t.rows) for y, _ in t.operands(r))
+
+    def add(self, kind, code, sort, *ins):
+        self.nodes.append((kind, code, sort, list(ins)))
+        return len(self.nodes) - 1
+
+    def source(self, x, body):
+        """The wire of value x where it is used in a body: at home its own, else the copy that the loop has of it."""
+        return self.values[x] if self.table.home[x] == body else (self.copies[body, x], 0)
+
+    def lower_row(self, i, row):
+        t, kind, body = self.table, row[0], self.table.reads[i]
+        ins = [self.source(x, body) for x, _ in t.operands(row)] if kind != NEXT else []
+        if kind in (INPUT, CONST): self.values[i] = ('start', i)
+        if kind == ROW_OP: self.values[i] = (self.add(OP, row[1], 0, *ins), 0)
+        if kind == ROW_PICK: self.values[i] = (self.add(PICK, 0, 0, *ins), 0)
+        if kind == FOR:
+            start, step, bound = ins
+            stream = self.streams[i] = self.add(STREAM, 5 * row[4] + row[5], 0, start, step, bound)
+            gate = self.add(GATE, 0, 0, (stream, 0), (stream, 1))
+            guard = self.add(OP, 3 + row[5], 0, start, bound)
+            self.values[i] = (gate, 0)
+            for x in self.carried[i]:
+                split = self.add(SPLIT, 0, t.sort(x), (guard, 0), self.source(x, body))
+                self.copies[i, x] = self.add(INVARIANT, 0, t.sort(x), (gate, 1), (split, 0))
+        if kind == ARG:
+            loop = t.home[i]
+            raw = (self.streams[loop], 1)
+            carry = self.add(CARRY, 0, 0, raw, ins[0], ('next', i))
+            split = self.add(SPLIT, 0, 0, raw, (carry, 0))
+            self.values[i] = (split, 0)
+            after = t.nexts[loop][t.args[loop].index(i)]
+            self.values[after] = (split, 1)
+            self.served[i] = (t.rows[after][1], loop)
+        if kind == OUT: self.results.append(ins[0])
+
+    def graph(self):
+        """Forks and drains for the wires so far, then the words."""
+        s = len(self.starts)
+        firsts, wires = [], s
+        for kind, _, _, _ in self.nodes:
+            firsts.append(wires)
+            wires += OUTPUTS[kind]
+        number = lambda x: self.starts.index(x[1]) if x[0] == 'start' else firsts[x[0]] + x[1]
+        rows = [[kind, code, sort] + [number(x) for x in ins] for kind, code, sort, ins in self.nodes]
+        results = [number(x) for x in self.results]
+        uses, sorts = [[] for _ in range(wires)], [0] * s
+        for row in rows:
+            for k in range(3, len(row)): uses[row[k]].append((row, k))
+            sorts += Node(row + [X] * 4).output_sorts()
+        for k, x in enumerate(results): uses[x].append((results, k))
+        for x in range(len(uses)):
+            left, rest = uses[x], x
+            if not left: rows.append([DRAIN, 0, sorts[x], x])
+            while len(left) > 1:
+                rows.append([FORK, 0, sorts[x], rest])
+                place, k = left[0]
+                place[k], rest, left = wires, wires + 1, left[1:]
+                wires += 2
+                for place, k in left: place[k] = rest
+        g = [len(rows), wires, s, len(results)]
+        inputs = 0
+        for i in self.starts:
+            kind, word = self.table.rows[i][:2]
+            g += [0, inputs] if kind == INPUT else [1, word]
+            inputs += kind == INPUT
+        g += results
+        first = s
+        for row in rows:
+            outs = OUTPUTS[row[0]]
+            g += row + [X] * (6 - len(row)) + [first if outs else X]
+            first += outs
+        return g
+
+
+def lowered(words):
+    """A table's graph, or none, with refusal 1 to 10 and its row."""
+    table, no, row = read_table(words)
+    if no: return None, no, row
+    g = Lowering(table).graph()
+    n, w, s, r = g[:4]
+    if n > 4096 or w > 8192 or s > 512 or r > 512: return None, 10, len(words) // 6
+    return g, 0, 0
+
+
+def check_table(words): return lowered(words)[1:]
+
+
+def lower(lent, words):
+    g, no, row = lowered(words)
+    if not no and len(g) > lent: no, row = 10, len(words) // 6
+    if no: return no, row, 0, [7] * lent
+    return 0, 0, len(g), g + [7] * (lent - len(g))
+
+
+class Fault(Exception): pass
+
+
+def reading(words, inputs, turns=1000):
+    """Plain reading: the results; a Fault at a zero step, or where the turns run out."""
+    table = read_table(words)[0]
+    rows, value, given, out = table.rows, {}, iter(inputs), []
+    ends = {}
+    stack = []
+    for i, r in enumerate(rows):
+        if r[0] == FOR: stack.append(i)
+        if r[0] == END: ends[stack.pop()] = i
+
+    def body(i, end):
+        nonlocal turns
+        while i < end:
+            kind, a, b, c, d, e = rows[i]
+            if kind == INPUT: value[i] = next(given)
+            if kind == CONST: value[i] = a
+            if kind == ROW_OP: value[i] = operator(a, value[b], value[c])
+            if kind == ROW_PICK: value[i] = value[b] if value[a] else value[c]
+            if kind == OUT: out.append(value[a])
+            if kind == FOR:
+                index, step, bound = value[a], value[b], value[c]
+                if step == 0: raise Fault
+                args, nexts = table.args[i], table.nexts[i]
+                carried = [value[rows[x][1]] for x in args]
+                while condition(e, index, bound):
+                    turns -= 1
+                    if turns < 0: raise Fault
+                    value[i] = index
+                    for x, w in zip(args, carried): value[x] = w
+                    body(i + 1 + len(args), ends[i])
+                    carried = [value[rows[x][1]] for x in nexts]
+                    index = update(d, index, step)
+                for x, w in zip(nexts, carried): value[x] = w
+                i = ends[i]
+            i += 1
+
+    body(0, len(rows))
+    return out
+
+
 # The line protocol.
 
 def numbers(text): return [int(x) for x in text.split()]
@@ -276,7 +527,11 @@ def answer(line):
     name, _, rest = line.strip().partition(' ')
     parts = [numbers(p) for p in rest.split(';')]
     if name == 'check_graph': return str(check_graph(parts[0]))
+    if name == 'check_table': return ' '.join(map(str, check_table(parts[0])))
     head = parts[0][0]
+    if name == 'lower':
+        *three, g = lower(head, parts[1])
+        return listed(three, g)
     if name == 'load': return listed(*(lambda no, s: ([no], s))(*load(head, parts[1], parts[2])))
     if name == 'fire':
         no, fired, s = fire(head, parts[1], parts[2])
@@ -361,6 +616,121 @@ def cases():
     yield '17 before 18', call('run', 1000, SUM, five[:-1], [13])
 
 
+# Tables, and what the register asks of them.
+
+def table(*rows): return [x for row in rows for x in list(row) + [0] * (6 - len(row))]
+
+
+SUM_TABLE = table([INPUT], [CONST, 0], [CONST, 1], [FOR, 1, 2, 0, 0, 0], [ARG, 1], [ROW_OP, 0, 4, 3], [NEXT, 5], [END], [OUT, 6])
+P12 = table([CONST, 0], [CONST, 1], [CONST, 3], [FOR, 0, 1, 2, 0, 0], [ARG, 0], [FOR, 0, 1, 3, 0, 0], [ARG, 4], [ROW_OP, 0, 6, 3],
+            [NEXT, 7], [END], [NEXT, 8], [END], [OUT, 10])
+
+
+def nested(depth):
+    """Loops in loops, all from row 0 by row 1 to row 2, the innermost with nothing in it."""
+    return table([CONST, 0], [CONST, 1], [CONST, 2], *[[FOR, 0, 1, 2, 0, 0]] * depth, *[[END]] * depth, [OUT, 0])
+
+
+def wide(values, unused=0):
+    """Eight loops in each other, so many constants that are added up in the innermost, and inputs that nothing uses, a node for each."""
+    first = values + unused + 8
+    rows = [[CONST, k] for k in range(values)] + [[INPUT]] * unused + [[FOR, 0, 1, 2, 0, 0]] * 8 + [[ROW_OP, 0, 0, 1]]
+    rows += [[ROW_OP, 0, first + k - 2, k] for k in range(2, values)]
+    return table(*rows, *[[END]] * 8, [OUT, 0])
+
+
+def lowering_cases():
+    """(what it shows, the call), in order."""
+    check = lambda what, words: (what, call('check_table', None, words))
+    low = lambda what, lent, words: (what, call('lower', lent, words))
+    row = lambda words, i, *new: words[:6 * i] + list(new) + words[6 * i + len(new):]
+    fits = lambda words: len(lowered(words)[0])
+    flags = table([INPUT], [CONST, 1], [ROW_OP, 3, 0, 1], [FOR, 1, 1, 0, 0, 0], [ARG, 0], [ROW_PICK, 2, 4, 3], [NEXT, 5], [END], [OUT, 6])
+    yield check('the sum table is accepted', SUM_TABLE)
+    yield low('the sum table lowers to 102 words, lent exactly', 102, SUM_TABLE)
+    yield low('two words more than enough are lent: they stay', 104, SUM_TABLE)
+    yield low('10: one word too few is lent, and all stay', 101, SUM_TABLE)
+    yield low('10: no word is lent', 0, SUM_TABLE)
+    yield check('P12 is accepted', P12)
+    yield low('P12 lowers', fits(P12), P12)
+    yield check('eight nested loops pass', nested(8))
+    yield low('eight nested loops lower', fits(nested(8)), nested(8))
+    yield check('6: a ninth', nested(9))
+    yield low('6: a ninth, lent words as they were', 3, nested(9))
+    yield low('a flag is carried into a loop', fits(flags), flags)
+    empty = table([INPUT], [OUT, 0])
+    yield check('INPUT; OUT 0 is accepted', empty)
+    yield low('INPUT; OUT 0 has no nodes', 7, empty)
+    many = table([INPUT], *[[OUT, 0]] * 511)
+    yield check('512 rows pass LENGTH', many)
+    yield low('512 rows lower', fits(many), many)
+    yield check('1: 513 rows', table([INPUT], *[[OUT, 0]] * 512))
+    yield check('1: no rows', [])
+    yield check('1: a word short', SUM_TABLE[:-1])
+    yield low('1: a word short, lent words as they were', 3, SUM_TABLE[:-1])
+    yield check('a graph of 4,096 nodes', wide(98, 21))
+    yield check('10: a graph of 4,097 nodes', wide(98, 22))
+    yield low('10: a graph of 4,097 nodes, lent words as they were', 3, wide(98, 22))
+    yield check('10: a table of 496 rows, 9,897 nodes', wide(240))
+    for what, words in (('2: a kind of 9', row(SUM_TABLE, 5, 9)), ('3: END with a word', row(SUM_TABLE, 7, END, 1)), ('4: an operator of 8', row(SUM_TABLE, 5, ROW_OP, 8)),
+                        ('5: NEXT behind FOR', row(SUM_TABLE, 4, NEXT, 1)), ('7: a row further down', row(SUM_TABLE, 5, ROW_OP, 0, 6)),
+                        ('8: PICK by a word', row(flags, 5, ROW_PICK, 1)), ('9: a table without its OUT', SUM_TABLE[:-6])):
+        yield check(what, words)
+        yield low(f'{what}, lent words as they were', 3, words)
+    yield check('4: an update of 6', row(SUM_TABLE, 3, FOR, 1, 2, 0, 6))
+    yield check('4: a condition of 5', row(SUM_TABLE, 3, FOR, 1, 2, 0, 0, 5))
+    yield check('5: END before all NEXTs', row(SUM_TABLE, 6, END, 0))
+    yield check('5: INPUT behind a FOR', row(SUM_TABLE, 5, INPUT, 0, 0, 0))
+    yield check('5: OUT in a loop', row(SUM_TABLE, 5, OUT, 1, 0, 0))
+    yield check('7: an ARG of its own index', row(SUM_TABLE, 4, ARG, 3))
+    yield check('7: a NEXT before END', row(SUM_TABLE, 6, NEXT, 6))
+    yield check('8: a flag as an OUT', table([INPUT], [ROW_OP, 3, 0, 0], [OUT, 1]))
+    yield check('9: no OUT', table([INPUT]))
+    sizes = lambda g: 2 * g[1] + 4 * g[0]
+    still = row(SUM_TABLE, 2, CONST, 0)
+    for what, words, inputs in (('the sum table, input 5: 10 after 58 firings', SUM_TABLE, [5]), ('the sum table, input 0: 0 after 13 firings', SUM_TABLE, [0]),
+                                ('row 2 changed to CONST 0: 6 firings, ZERO STEP, node 0', still, [5]), ('P12: the result is 5', P12, []),
+                                ('a flag carried in, input 4', flags, [4]), ('INPUT; OUT 0: no firing', empty, [9])):
+        g = lowered(words)[0]
+        yield f'{what}: loaded', call('load', sizes(g), g, inputs)
+        yield what, call('run', 1000000, g, load(sizes(g), g, inputs)[1], [])
+
+
+def name_of(node):
+    """A node's kind, with what its code says."""
+    name = 'STREAM GATE CARRY INVARIANT SPLIT FORK DRAIN OP PICK'.split()[node.kind]
+    conditions = '< <= > >= !='.split()
+    if node.kind == STREAM: return f'{name} {"+= -= *= /= <<= >>=".split()[node.code // 5]} {conditions[node.code % 5]}'
+    return f'{name} {("+ - *".split() + conditions)[node.code]}' if node.kind == OP else name
+
+
+def tracing(g, words, allowance):
+    """The lines of a traced run by sweeps, and the state it ends in."""
+    graph = Graph(g)
+    nodes, state = graph.nodes(), State(graph, words)
+    lines, before = [], -1
+    while before < len(lines) < allowance:
+        before = len(lines)
+        for i, node in enumerate(nodes):
+            done = ready(node, state, i)
+            if done is None or len(lines) == allowance: continue
+            took = [f' {node.ins[k]}={state.tokens[node.ins[k]]}' for k in done[0]]
+            gave = [f' {node.first + k}={word}' for k, word in sorted(done[1].items())]
+            perform(node, state, i, done)
+            lines.append(f'{len(lines) + 1}: node {i} {name_of(node)} took{"".join(took) or " nothing"} gave{"".join(gave) or " nothing"}')
+    return lines, state.words()
+
+
+def rehearsed(g, words, allowance):
+    """What people are told of a run by sweeps."""
+    no, end, firings, node, s = run(allowance, g, words, [])
+    graph = Graph(g)
+    tokens = State(graph, s).tokens
+    name = ['COMPLETE', 'ZERO STEP', 'STRANDED', 'SPENT'][end]
+    out = [f'{name} after {firings} firings' + (f' at node {node}' if end == 1 else '') + f', {g[0]} nodes, {g[1]} wires']
+    return out + [f'result {k}: {"none" if tokens[x] is None else tokens[x]}' for k, x in enumerate(graph.results)]
+
+
 def drawing(g, words):
     """The listing of a graph, a line a row, and its dot text with the tokens of a state."""
     graph = Graph(g)
@@ -368,7 +738,6 @@ def drawing(g, words):
     given = {x: (f'n{i}', sort) for i, node in enumerate(nodes) for x, sort in zip(node.wires_out(), node.output_sorts())}
     given.update({k: (f's{k}', 0) for k in range(len(graph.starts))})
     tokens = State(graph, words).tokens if words else [None] * graph.wires
-    names = 'STREAM GATE CARRY INVARIANT SPLIT FORK DRAIN OP PICK'.split()
     shapes = 'house invhouse box box3d diamond triangle invtriangle circle trapezium'.split()
 
     def edge(wire, reader):
@@ -380,19 +749,33 @@ def drawing(g, words):
     out = [' '.join(map(str, x)) for x in out] + ['digraph graph_of_tokens {']
     for k, (kind, word) in enumerate(graph.starts): out.append(f's{k} [shape=plaintext label="{["input", "constant"][kind]} {word}"];')
     for i, node in enumerate(nodes):
-        out.append(f'n{i} [label="{i} {names[node.kind]}" shape={shapes[node.kind]}];')
+        out.append(f'n{i} [label="{i} {name_of(node)}" shape={shapes[node.kind]}];')
         out += [edge(x, f'n{i}') for x in node.wires_in()]
     for k, x in enumerate(graph.results): out += [f'r{k} [shape=plaintext label="result {k}"];', edge(x, f'r{k}')]
     return out + ['}']
 
 
+def table_words(text): return [int(x) for line in text.split('\n') for x in line.partition('#')[0].split()]
+
+
 if __name__ == '__main__':
-    if sys.argv[1:] == ['cases']:
+    what = sys.argv[1:]
+    if what == ['cases']:
         for _, line in cases(): print(line)
-    elif sys.argv[1:] == ['told']:
-        for k, (what, line) in enumerate(cases()): print(f'{k + 1}. {what}: `{answer(line).partition(" ;")[0]}`')
-    elif sys.argv[1:] == ['draw']:
+    elif what == ['lowering-cases']:
+        for _, line in lowering_cases(): print(line)
+    elif what == ['told']:
+        for part in (cases(), lowering_cases()):
+            for k, (shows, line) in enumerate(part): print(f'{k + 1}. {shows}: `{answer(line).partition(" ;")[0]}`')
+            print()
+    elif what == ['draw']:
         g, _, s = sys.stdin.read().partition(';')
         print('\n'.join(drawing(numbers(g), numbers(s))))
+    elif what == ['trace']:
+        g, inputs, s = [numbers(x) for x in sys.stdin.read().split(';')]
+        loaded = load(len(s), g, inputs)[1]
+        print('\n'.join(rehearsed(g, loaded, 1000) + tracing(g, loaded, 1000)[0] + rehearsed(g, loaded, 1000)))
+    elif what == ['lower']:
+        print('\n'.join(drawing(lowered(table_words(sys.stdin.read()))[0], []))[:].partition('digraph')[0], end='')
     else:
         for line in sys.stdin: print(answer(line))

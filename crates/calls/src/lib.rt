@@ -17,6 +17,10 @@ const LONG: u32 = 8;
 
 // The calls, by number.
 
+const CHECK_TABLE: u32 = 1;
+
+const LOWER: u32 = 2;
+
 const CHECK_GRAPH: u32 = 3;
 
 const LOAD: u32 = 4;
@@ -44,6 +48,12 @@ fn name_end(line: &[u8]) -> usize
 
 // The call of a name, or 0.
 fn call_of(name: &[u8]) -> u32 {
+    if text::same(name, b"check_table") {
+        return CHECK_TABLE;
+    }
+    if text::same(name, b"lower") {
+        return LOWER;
+    }
     if text::same(name, b"check_graph") {
         return CHECK_GRAPH;
     }
@@ -62,6 +72,7 @@ fn call_of(name: &[u8]) -> u32 {
 // How many semicolons a call has.
 fn lists_of(call: u32) -> usize {
     match call {
+        LOWER => 1,
         LOAD => 2,
         FIRE => 2,
         RUN => 3,
@@ -93,12 +104,27 @@ fn say_number(number: u32, out: &mut [u8]) -> usize
     text::put_number(out, 0, number as u64)
 }
 
-fn say_state(out: &mut [u8], at: usize, state: &[u32]) -> usize
+// A refusal number and its row.
+fn say_row(number: u32, row: u32, out: &mut [u8]) -> usize
+    ensures { λ r. ⌜ r ≤ length (now (out .entry)) ⌝ }
+{
+    let n = say_number(number, out);
+    text::put_next(out, n, row as u64)
+}
+
+fn say_words(out: &mut [u8], at: usize, words: &[u32]) -> usize
     requires { ⌜ at ≤ length (now out) ⌝ }
     ensures { λ r. ⌜ r ≤ length (now (out .entry)) ⌝ }
 {
     let n = text::put(out, at, b" ;");
-    text::put_words(out, n, state)
+    text::put_words(out, n, words)
+}
+
+fn call_check_table(table: &[u32], out: &mut [u8]) -> usize
+    ensures { λ r. ⌜ r ≤ length (now (out .entry)) ⌝ }
+{
+    let checked = lowering::check_table(table);
+    say_row(checked.number, checked.row, out)
 }
 
 fn call_check_graph(graph: &[u32], out: &mut [u8]) -> usize
@@ -115,13 +141,23 @@ fn fill(lent: &mut [u32]) {
     }
 }
 
+fn call_lower(table: &[u32], graph: &mut [u32], out: &mut [u8]) -> usize
+    ensures { λ r. ⌜ r ≤ length (now (out .entry)) ⌝ }
+{
+    fill(graph);
+    let lowered = lowering::lower(table, graph);
+    let a = say_row(lowered.number, lowered.row, out);
+    let b = text::put_next(out, a, lowered.length as u64);
+    say_words(out, b, graph)
+}
+
 fn call_load(graph: &[u32], inputs: &[u32], state: &mut [u32], out: &mut [u8]) -> usize
     ensures { λ r. ⌜ r ≤ length (now (out .entry)) ⌝ }
 {
     fill(state);
     let number = machine::load(graph, inputs, state);
     let n = say_number(number, out);
-    say_state(out, n, state)
+    say_words(out, n, state)
 }
 
 fn say_fired(fired: Fired, out: &mut [u8]) -> usize
@@ -142,7 +178,7 @@ fn call_fire(node: u64, graph: &[u32], state: &mut [u32], out: &mut [u8]) -> usi
 {
     let fired = machine::fire(graph, state, node as usize);
     let n = say_fired(fired, out);
-    say_state(out, n, state)
+    say_words(out, n, state)
 }
 
 // The four numbers of a run's answer.
@@ -178,7 +214,7 @@ fn call_run(
 {
     let ran = run::run(graph, state, order, allowance);
     let n = say_ran(ran, out);
-    say_state(out, n, state)
+    say_words(out, n, state)
 }
 
 // The first of two problems.
@@ -190,6 +226,34 @@ fn first_of(a: u32, b: u32) -> u32 {
 }
 
 // A line behind its name, for each call: its lists go to the lent words, then the call is made.
+
+fn check_table_line(rest: &[u8], table: &mut [u32], out: &mut [u8]) -> usize
+    ensures { λ r. ⌜ r ≤ length (now (out .entry)) ⌝ }
+{
+    let t = text::words(rest, table);
+    if t.problem != 0 {
+        return error(t.problem, out);
+    }
+    let n = t.count;
+    call_check_table(&table[..n], out)
+}
+
+fn lower_line(rest: &[u8], table: &mut [u32], graph: &mut [u32], out: &mut [u8]) -> usize
+    ensures { λ r. ⌜ r ≤ length (now (out .entry)) ⌝ }
+{
+    let lent = text::number(text::part(rest, 0));
+    let t = text::words(text::part(rest, 1), table);
+    let problem = first_of(lent.problem, t.problem);
+    if problem != 0 {
+        return error(problem, out);
+    }
+    let k = lent.value as usize;
+    if graph.len() < k {
+        return error(LENT, out);
+    }
+    let n = t.count;
+    call_lower(&table[..n], &mut graph[..k], out)
+}
 
 fn check_graph_line(rest: &[u8], graph: &mut [u32], out: &mut [u8]) -> usize
     ensures { λ r. ⌜ r ≤ length (now (out .entry)) ⌝ }
@@ -285,6 +349,8 @@ fn line_of(
     ensures { λ r. ⌜ r ≤ length (now (out .entry)) ⌝ }
 {
     match call {
+        CHECK_TABLE => check_table_line(rest, first, out),
+        LOWER => lower_line(rest, first, second, out),
         CHECK_GRAPH => check_graph_line(rest, first, out),
         LOAD => load_line(rest, first, third, second, out),
         FIRE => fire_line(rest, first, second, out),

@@ -39,7 +39,7 @@ fn rows_place(graph: &[u32]) -> usize
 }
 
 // Word k of node i's row.
-fn row_word(graph: &[u32], i: usize, k: usize) -> u32
+pub fn row_word(graph: &[u32], i: usize, k: usize) -> u32
     requires { ⌜ (i ≤ 8192) × (k ≤ 8) ⌝ }
 {
     word_at(graph, rows_place(graph) + 7 * i + k)
@@ -153,19 +153,28 @@ fn put_mark(out: &mut [u8], at: usize, letter: u8, number: u64) -> usize
     text::put_number(out, n, number)
 }
 
-fn put_node(out: &mut [u8], at: usize, graph: &[u32], i: usize) -> usize
+// A node's number, its kind, and what its code says.
+pub fn put_name(out: &mut [u8], at: usize, graph: &[u32], i: usize) -> usize
     requires { ⌜ (at ≤ length (now out)) × (i ≤ 8192) ⌝ }
     ensures { λ r. ⌜ r ≤ length (now (out .entry)) ⌝ }
 {
     let kind = row_word(graph, i, 0);
+    let a = text::put_number(out, at, i as u64);
+    let b = text::put_letter(out, a, b' ');
+    let c = told::put_machine(out, b, kind);
+    told::put_code(out, c, kind, row_word(graph, i, 1))
+}
+
+fn put_node(out: &mut [u8], at: usize, graph: &[u32], i: usize) -> usize
+    requires { ⌜ (at ≤ length (now out)) × (i ≤ 8192) ⌝ }
+    ensures { λ r. ⌜ r ≤ length (now (out .entry)) ⌝ }
+{
     let a = put_mark(out, at, b'n', i as u64);
     let b = text::put(out, a, b" [label=\"");
-    let c = text::put_number(out, b, i as u64);
-    let d = text::put_letter(out, c, b' ');
-    let e = told::put_machine(out, d, kind);
-    let f = text::put(out, e, b"\" shape=");
-    let g = put_shape(out, f, kind);
-    text::put(out, g, b"];\n")
+    let c = put_name(out, b, graph, i);
+    let d = text::put(out, c, b"\" shape=");
+    let e = put_shape(out, d, row_word(graph, i, 0));
+    text::put(out, e, b"];\n")
 }
 
 // Where a wire comes from: a start or a node.

@@ -1,10 +1,22 @@
-// Rehearses a graph by sweeps, with an allowance of 1,000. Standard input gives its words, the input words and the words of a state, semicolons between.
+// Rehearses a graph by sweeps, with an allowance of 1,000, first as it is and then with its firings told. Standard input gives its words, the input words and the
+// words of a state, semicolons between.
 use libc::STDOUT_FILENO;
 
 fn rehearse(graph: &[u32], inputs: &[u32], state: &mut [u32]) {
     let mut out = io::large_buffer();
     let n = rehearsal::run_graph(graph, inputs, state, &[], 1000, &mut out);
     io::write_all(STDOUT_FILENO, &out[..n]);
+}
+
+fn trace(graph: &[u32], inputs: &[u32], state: &mut [u32]) {
+    let mut out = io::large_buffer();
+    let n = rehearsal::trace_graph(graph, inputs, state, &[], 1000, STDOUT_FILENO, &mut out);
+    io::write_all(STDOUT_FILENO, &out[..n]);
+}
+
+fn rehearse_twice(graph: &[u32], inputs: &[u32], state: &mut [u32]) {
+    rehearse(graph, inputs, state);
+    trace(graph, inputs, state);
 }
 
 fn rehearse_text(text: &[u8]) {
@@ -17,7 +29,7 @@ fn rehearse_text(text: &[u8]) {
     let n = g.count;
     let m = i.count;
     let k = s.count;
-    rehearse(&graph[..n], &inputs[..m], &mut state[..k]);
+    rehearse_twice(&graph[..n], &inputs[..m], &mut state[..k]);
 }
 
 fn main() {

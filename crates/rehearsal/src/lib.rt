@@ -1,10 +1,13 @@
 // A rehearsal of a graph: loading, the run, and what people are told of them.
-ghost use Prim.Native.Nat.{_≤_};
+ghost use Prim.Native.Nat.{_≤_, _+_};
 ghost use lib.ListN.{length};
 use run::Ran;
 
-// A refusal of a graph or of its inputs.
-fn put_refused(out: &mut [u8], number: u32) -> usize
+const INPUTS: u32 = 16;
+
+const ORDER: u32 = 18;
+
+fn put_rule(out: &mut [u8], number: u32) -> usize
     ensures { λ r. ⌜ r ≤ length (now (out .entry)) ⌝ }
 {
     let a = text::put(out, 0, b"refused by rule");
@@ -12,8 +15,60 @@ fn put_refused(out: &mut [u8], number: u32) -> usize
     let c = text::put_letter(out, b, b' ');
     let d = told::put_rule(out, c, number);
     let e = text::put(out, d, b": ");
-    let f = told::put_asked(out, e, number);
-    text::put_letter(out, f, b'\n')
+    told::put_asked(out, e, number)
+}
+
+// One more input where start k is one.
+fn one_more(graph: &[u32], k: usize, inputs: usize) -> usize
+    requires { ⌜ (k ≤ 8192) × (inputs ≤ k) ⌝ }
+    ensures { λ r. ⌜ r ≤ k + 1 ⌝ }
+{
+    if drawn::word_at(graph, 4 + 2 * k) == 0 {
+        return inputs + 1;
+    }
+    inputs
+}
+
+fn input_count(graph: &[u32]) -> usize
+    ensures { λ r. ⌜ r ≤ 8192 ⌝ }
+{
+    let starts = drawn::count_at(graph, 2);
+    let mut inputs: usize = 0;
+    let mut k: usize = 0;
+    while k < starts {
+        inputs = one_more(graph, k, inputs);
+        k += 1;
+    }
+    inputs
+}
+
+// What the numbers were that a refusal is about, where people can count them.
+fn put_numbers(out: &mut [u8], at: usize, number: u32, graph: &[u32], given: usize) -> usize
+    requires { ⌜ at ≤ length (now out) ⌝ }
+    ensures { λ r. ⌜ r ≤ length (now (out .entry)) ⌝ }
+{
+    match number {
+        INPUTS => {
+            let a = text::put(out, at, b"; inputs of the table:");
+            let b = text::put_next(out, a, input_count(graph) as u64);
+            let c = text::put(out, b, b", words given:");
+            text::put_next(out, c, given as u64)
+        }
+        ORDER => {
+            let a = text::put(out, at, b", which is");
+            text::put_next(out, a, drawn::count_at(graph, 0) as u64)
+        }
+        _ => at,
+    }
+}
+
+// A refusal of a graph, its inputs or an order list.
+fn put_refused(out: &mut [u8], number: u32, graph: &[u32], given: usize) -> usize
+    ensures { λ r. ⌜ r ≤ length (now (out .entry)) ⌝ }
+{
+    let a = put_rule(out, number);
+    let b = put_numbers(out, a, number, graph, given);
+    text::put_letter(out, b, b'\n')
 }
 
 fn put_word(out: &mut [u8], at: usize, state: &[u32], wire: u32) -> usize
@@ -91,23 +146,27 @@ fn put_counts(out: &mut [u8], at: usize, graph: &[u32]) -> usize
     text::put(out, d, b" wires\n")
 }
 
-// Runs a loaded state, and tells the answer, the firings, the counts and the results.
-pub fn run_loaded(
-    graph: &[u32],
-    state: &mut [u32],
-    order: &[u32],
-    allowance: u64,
-    out: &mut [u8],
-) -> usize
+// The answer, the firings and the counts.
+fn put_answered(out: &mut [u8], at: usize, graph: &[u32], ran: Ran) -> usize
+    requires { ⌜ at ≤ length (now out) ⌝ }
     ensures { λ r. ⌜ r ≤ length (now (out .entry)) ⌝ }
 {
-    let ran = run::run(graph, state, order, allowance);
-    let a = put_ran(out, 0, ran);
-    let b = put_counts(out, a, graph);
-    put_results(out, b, graph, state)
+    let n = put_ran(out, at, ran);
+    put_counts(out, n, graph)
 }
 
-// Loads and runs a graph in the lent state, which has the length that the graph asks.
+// The number that refuses a run, or 0.
+fn refusal_of(ran: Ran) -> u32 {
+    match ran {
+        Ran::Refused(number) => number,
+        Ran::Spent(firings) => 0,
+        Ran::Complete(firings) => 0,
+        Ran::ZeroStep(firings, node) => 0,
+        Ran::Stranded(firings) => 0,
+    }
+}
+
+// Loads and runs a graph in the lent state, which has the length that the graph asks, and tells the answer, the firings, the counts and the results.
 pub fn run_graph(
     graph: &[u32],
     inputs: &[u32],
@@ -120,7 +179,104 @@ pub fn run_graph(
 {
     let number = machine::load(graph, inputs, state);
     if number != 0 {
-        return put_refused(out, number);
+        return put_refused(out, number, graph, inputs.len());
     }
-    run_loaded(graph, state, order, allowance, out)
+    let ran = run::run(graph, state, order, allowance);
+    put_rested(out, graph, state, ran)
+}
+
+// The same, with each firing told on `to` first.
+pub fn trace_graph(
+    graph: &[u32],
+    inputs: &[u32],
+    state: &mut [u32],
+    order: &[u32],
+    allowance: u64,
+    to: i32,
+    out: &mut [u8],
+) -> usize
+    ensures { λ r. ⌜ r ≤ length (now (out .entry)) ⌝ }
+{
+    let number = machine::load(graph, inputs, state);
+    if number != 0 {
+        return put_refused(out, number, graph, inputs.len());
+    }
+    let ran = traced::run_told(graph, state, order, allowance, to);
+    put_rested(out, graph, state, ran)
+}
+
+// What a run has left.
+fn put_rested(out: &mut [u8], graph: &[u32], state: &[u32], ran: Ran) -> usize
+    ensures { λ r. ⌜ r ≤ length (now (out .entry)) ⌝ }
+{
+    let number = refusal_of(ran);
+    if number != 0 {
+        return put_refused(out, number, graph, 0);
+    }
+    let n = put_answered(out, 0, graph, ran);
+    put_results(out, n, graph, state)
+}
+
+// Loads and runs a graph, and draws it with the tokens that stand on its wires then. The answer is a comment above the drawing.
+pub fn draw_graph(
+    graph: &[u32],
+    inputs: &[u32],
+    state: &mut [u32],
+    order: &[u32],
+    allowance: u64,
+    out: &mut [u8],
+) -> usize
+    ensures { λ r. ⌜ r ≤ length (now (out .entry)) ⌝ }
+{
+    let number = machine::load(graph, inputs, state);
+    if number != 0 {
+        return put_refused(out, number, graph, inputs.len());
+    }
+    let ran = run::run(graph, state, order, allowance);
+    put_drawn(out, graph, state, ran)
+}
+
+fn put_drawn(out: &mut [u8], graph: &[u32], state: &[u32], ran: Ran) -> usize
+    ensures { λ r. ⌜ r ≤ length (now (out .entry)) ⌝ }
+{
+    let number = refusal_of(ran);
+    if number != 0 {
+        return put_refused(out, number, graph, 0);
+    }
+    let a = text::put(out, 0, b"// ");
+    let b = put_answered(out, a, graph, ran);
+    drawn::put_drawing(out, b, graph, state)
+}
+
+// The words of a state, and no more than a state can have.
+pub fn state_words(graph: &[u32]) -> usize
+    ensures { λ r. ⌜ r ≤ 32768 ⌝ }
+{
+    let words = 2 * drawn::count_at(graph, 1) + 4 * drawn::count_at(graph, 0);
+    if words <= 32768 {
+        return words;
+    }
+    32768
+}
+
+fn fill_reverse(order: &mut [u32], nodes: usize)
+    requires { ⌜ (nodes ≤ length (now order)) × (nodes ≤ 8192) ⌝ }
+{
+    let mut k: usize = 0;
+    while k < nodes {
+        order[k] = (nodes - 1 - k) as u32;
+        k += 1;
+    }
+}
+
+// The nodes from the last to node 0, as an order list; how many they are.
+pub fn reverse_order(graph: &[u32], order: &mut [u32]) -> usize
+    ensures { λ r. ⌜ r ≤ length (now (order .entry)) ⌝ }
+{
+    let nodes = drawn::count_at(graph, 0);
+    if order.len() < nodes {
+        return 0;
+    }
+    fill_reverse(order, nodes);
+    nodes
 }

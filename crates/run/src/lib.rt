@@ -219,7 +219,7 @@ fn zero_step(graph: &[u32], state: &[u32]) -> u32
     i
 }
 
-fn ended(graph: &[u32], state: &[u32], firings: u64) -> Ran
+pub fn ended(graph: &[u32], state: &[u32], firings: u64) -> Ran
     requires { ⌜ Runs (now graph) (length (now state)) ⌝ }
     ensures answer { λ r. ⌜ r ≡ ranBy (outcome (now (graph .entry)) (now (state .entry))) firings ⌝ }
 {
@@ -237,7 +237,7 @@ fn ended(graph: &[u32], state: &[u32], firings: u64) -> Ran
 }
 
 // No number of the order list is past the last node.
-fn order_below(graph: &[u32], order: &[u32]) -> bool
+pub fn order_below(graph: &[u32], order: &[u32]) -> bool
     requires { ⌜ graphRefusal (now graph) ≡ 0 ⌝ }
     ensures answer { λ r. ⌜ r ≡ orderBelow (now (graph .entry)) (now (order .entry)) ⌝ }
 {

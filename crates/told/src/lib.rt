@@ -19,7 +19,7 @@ pub fn put_asked(out: &mut [u8], at: usize, number: u32) -> usize
     ensures { λ r. ⌜ r ≤ length (now (out .entry)) ⌝ }
 {
     let names =
-        b"nothing;a table has one to 512 rows of six words;a row starts with a kind from 0 to 8;the words that a kind does not use are 0;an operator is 0 to 7, an update 0 to 5, a condition 0 to 4;INPUT and CONST come first, ARG follows FOR or ARG, a loop has as many NEXTs as ARGs, then END, OUT stands last, outside every loop;at most eight loops are open;an operand is the number of an earlier row whose value is visible here;the first operand of PICK is a flag, every other operand is a word;every loop is ended, and there is an OUT;at most 4,096 nodes, 8,192 wires, 512 starts and 512 results, and enough words lent;a graph has 4 + 2S + R + 7n words, and counts within 4,096, 8,192, 512 and 512;starts, kinds, codes, sorts, absent places and output numbers are as the kind asks;every input and result is below W;every wire is read once;what is read has the sort that is asked;one word for each INPUT;a state has 2W + 4n words and is legal;every node number is below n";
+        b"nothing;a table has one to 512 rows of six words;a row starts with a kind from 0 to 8;the words that a kind does not use are 0;an operator is 0 to 7, an update 0 to 5, a condition 0 to 4;INPUT and CONST come first, ARG follows FOR or ARG, a loop has as many NEXTs as ARGs, then END, OUT stands last, outside every loop;at most eight loops are open;an operand is the number of an earlier row whose value is visible here;the first operand of PICK is a flag, every other operand is a word;every loop is ended, and there is an OUT;the graph of a table has at most 4,096 nodes, 8,192 wires, 512 starts and 512 results, and fits the words lent for it;a graph has 4 + 2S + R + 7n words, and counts within 4,096, 8,192, 512 and 512;starts, kinds, codes, sorts, absent places and output numbers are as the kind asks;every input and result is below W;every wire is read once;what is read has the sort that is asked;one word for each INPUT;a state has 2W + 4n words and is legal;every node number is below n";
     text::put(out, at, text::part(names, number as usize))
 }
 
@@ -42,6 +42,33 @@ pub fn put_machine(out: &mut [u8], at: usize, kind: u32) -> usize
 {
     let names = b"STREAM;GATE;CARRY;INVARIANT;SPLIT;FORK;DRAIN;OP;PICK";
     text::put(out, at, text::part(names, kind as usize))
+}
+
+fn put_condition(out: &mut [u8], at: usize, code: usize) -> usize
+    requires { ⌜ at ≤ length (now out) ⌝ }
+    ensures { λ r. ⌜ r ≤ length (now (out .entry)) ⌝ }
+{
+    text::put(out, at, text::part(b" <; <=; >; >=; !=", code))
+}
+
+// What a node's code says, as an OP's + or a STREAM's += and <; the other kinds have none.
+pub fn put_code(out: &mut [u8], at: usize, kind: u32, code: u32) -> usize
+    requires { ⌜ at ≤ length (now out) ⌝ }
+    ensures { λ r. ⌜ r ≤ length (now (out .entry)) ⌝ }
+{
+    match kind {
+        0 => {
+            let updates = b" +=; -=; *=; /=; <<=; >>=";
+            let n = text::put(out, at, text::part(updates, (code / 5) as usize));
+            put_condition(out, n, (code % 5) as usize)
+        }
+        7 => text::put(
+            out,
+            at,
+            text::part(b" +; -; *; <; <=; >; >=; !=", code as usize),
+        ),
+        _ => at,
+    }
 }
 
 // The name of a run's answer.

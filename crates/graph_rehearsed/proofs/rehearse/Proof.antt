@@ -1,7 +1,8 @@
--- `graph_rehearsed::rehearse` is safe and ends: what is lent lies within its memory. Assumes nothing.
+-- `graph_rehearsed::rehearse` is safe and ends. Assumes nothing.
 use mathlib.Core.Path.{sym}
 use native.Mathlib.Omega.{arith}
 use borrow.Author.Needs.{needs}
+use lib.ListN.{length}
 use lib.Seq.{length-take-le}
 use Rattle.graph_rehearsed.proofs.rehearse.Statement.{statement}
 use Rattle.graph_rehearsed.proofs.rehearse.Tie as tie

@@ -1,0 +1,242 @@
+// What a command is asked: its arguments, read one by one. The table is the first that is no option; the others are input words, kept in lent words.
+ghost use Prim.Native.Nat.{_≤_, _<_};
+ghost use lib.ListN.{length};
+
+// What an option waits for in the next argument.
+
+const NO_MORE: u32 = 0;
+
+const A_FILE: u32 = 1;
+
+const A_NUMBER: u32 = 2;
+
+// What can be wrong with an argument.
+
+pub const TABLE: u32 = 1;
+
+pub const OPTION: u32 = 2;
+
+pub const WORD: u32 = 3;
+
+pub const INPUTS: u32 = 4;
+
+pub const VALUE: u32 = 5;
+
+pub const ALLOWANCE: u32 = 6;
+
+pub const ORDERS: u32 = 7;
+
+pub const LONG: u32 = 8;
+
+pub const ALONE: u32 = 9;
+
+pub const TRACE: u32 = 10;
+
+// The allowance where none is asked: more than any rehearsal of a station takes, and over in minutes.
+pub const USUAL: u64 = 1000000000;
+
+// `table` and `order` are numbers of arguments, 0 where none names the file; `run` says that a run was asked for by an input or an option.
+// `problem` is the first that is wrong, and `at` its argument.
+pub struct Asked {
+    pub table: usize,
+    pub order: usize,
+    pub inputs: usize,
+    pub allowance: u64,
+    pub reverse: bool,
+    pub trace: bool,
+    pub run: bool,
+    pub waits: u32,
+    pub problem: u32,
+    pub at: usize,
+}
+
+pub fn nothing() -> Asked
+    ensures { λ r. ⌜ r .inputs ≤ 0 ⌝ }
+{
+    Asked {
+        table: 0,
+        order: 0,
+        inputs: 0,
+        allowance: USUAL,
+        reverse: false,
+        trace: false,
+        run: false,
+        waits: NO_MORE,
+        problem: 0,
+        at: 0,
+    }
+}
+
+// The first problem is kept.
+pub fn wrong(given: Asked, problem: u32, k: usize) -> Asked
+    ensures { λ r. ⌜ r .inputs ≤ given .inputs ⌝ }
+{
+    let mut asked = given;
+    if asked.problem == 0 {
+        asked.problem = problem;
+        asked.at = k;
+    }
+    asked
+}
+
+fn with_allowance(given: Asked, k: usize, arg: &[u8]) -> Asked
+    ensures { λ r. ⌜ r .inputs ≤ given .inputs ⌝ }
+{
+    let n = text::number(arg);
+    if n.problem != 0 {
+        return wrong(given, ALLOWANCE, k);
+    }
+    let mut asked = given;
+    asked.allowance = n.value;
+    asked.waits = NO_MORE;
+    asked
+}
+
+fn with_order(given: Asked, k: usize) -> Asked
+    ensures { λ r. ⌜ r .inputs ≤ given .inputs ⌝ }
+{
+    let mut asked = given;
+    asked.order = k;
+    asked.waits = NO_MORE;
+    asked
+}
+
+fn waiting(given: Asked, k: usize, what: u32) -> Asked
+    ensures { λ r. ⌜ r .inputs ≤ given .inputs ⌝ }
+{
+    let mut asked = given;
+    asked.run = true;
+    asked.waits = what;
+    asked.at = k;
+    asked
+}
+
+fn reversed(given: Asked) -> Asked
+    ensures { λ r. ⌜ r .inputs ≤ given .inputs ⌝ }
+{
+    let mut asked = given;
+    asked.run = true;
+    asked.reverse = true;
+    asked
+}
+
+fn traced(given: Asked) -> Asked
+    ensures { λ r. ⌜ r .inputs ≤ given .inputs ⌝ }
+{
+    let mut asked = given;
+    asked.run = true;
+    asked.trace = true;
+    asked
+}
+
+fn option(given: Asked, k: usize, arg: &[u8]) -> Asked
+    ensures { λ r. ⌜ r .inputs ≤ given .inputs ⌝ }
+{
+    if text::same(arg, b"--reverse") {
+        return reversed(given);
+    }
+    if text::same(arg, b"--trace") {
+        return traced(given);
+    }
+    if text::same(arg, b"--order") {
+        return waiting(given, k, A_FILE);
+    }
+    if text::same(arg, b"--allowance") {
+        return waiting(given, k, A_NUMBER);
+    }
+    wrong(given, OPTION, k)
+}
+
+fn named(given: Asked, k: usize) -> Asked
+    ensures { λ r. ⌜ r .inputs ≤ given .inputs ⌝ }
+{
+    let mut asked = given;
+    asked.table = k;
+    asked
+}
+
+// An input word is kept.
+fn input(given: Asked, k: usize, arg: &[u8], inputs: &mut [u32]) -> Asked
+    requires { ⌜ given .inputs ≤ length (now inputs) ⌝ }
+    ensures { λ r. ⌜ r .inputs ≤ length (now (inputs .entry)) ⌝ }
+{
+    let n = given.inputs;
+    if inputs.len() <= n {
+        return wrong(given, INPUTS, k);
+    }
+    let word = text::number(arg);
+    if word.problem != 0 {
+        return wrong(given, WORD, k);
+    }
+    let value = word.value;
+    if 4294967295 < value {
+        return wrong(given, WORD, k);
+    }
+    inputs[n] = value as u32;
+    let mut asked = given;
+    asked.run = true;
+    asked.inputs = n + 1;
+    asked
+}
+
+fn is_option(arg: &[u8]) -> bool {
+    if 0 < arg.len() {
+        return arg[0] == b'-';
+    }
+    false
+}
+
+// An argument that no option waits for.
+fn plain(given: Asked, k: usize, arg: &[u8], inputs: &mut [u32]) -> Asked
+    requires { ⌜ given .inputs ≤ length (now inputs) ⌝ }
+    ensures { λ r. ⌜ r .inputs ≤ length (now (inputs .entry)) ⌝ }
+{
+    if is_option(arg) {
+        return option(given, k, arg);
+    }
+    if given.table == 0 {
+        return named(given, k);
+    }
+    input(given, k, arg, inputs)
+}
+
+// Argument k, which is not 0.
+pub fn take(given: Asked, k: usize, arg: &[u8], inputs: &mut [u32]) -> Asked
+    requires { ⌜ given .inputs ≤ length (now inputs) ⌝ }
+    ensures { λ r. ⌜ r .inputs ≤ length (now (inputs .entry)) ⌝ }
+{
+    let waits = given.waits;
+    match waits {
+        A_FILE => with_order(given, k),
+        A_NUMBER => with_allowance(given, k, arg),
+        _ => plain(given, k, arg, inputs),
+    }
+}
+
+// What is wrong with all arguments together.
+pub fn complete(asked: Asked) -> Asked
+    ensures { λ r. ⌜ r .inputs ≤ asked .inputs ⌝ }
+{
+    if asked.waits != NO_MORE {
+        return wrong(asked, VALUE, asked.at);
+    }
+    if asked.reverse {
+        if asked.order != 0 {
+            return wrong(asked, ORDERS, 0);
+        }
+    }
+    if asked.table == 0 {
+        return wrong(asked, TABLE, 0);
+    }
+    asked
+}
+
+// A problem in words.
+pub fn put_problem(out: &mut [u8], at: usize, problem: u32) -> usize
+    requires { ⌜ at ≤ length (now out) ⌝ }
+    ensures { λ r. ⌜ r ≤ length (now (out .entry)) ⌝ }
+{
+    let problems =
+        b"nothing is wrong;no table is named;there is no such option;an input is a decimal word, 0 to 4,294,967,295;no table has so many inputs;something is to follow this option;an allowance is a number, 0 to 18,446,744,073,709,551,615;--order and --reverse do not go together;the argument is too long;this command takes a table and nothing else;a drawing has no trace";
+    text::put(out, at, text::part(problems, problem as usize))
+}

@@ -1,0 +1,251 @@
+// A run told firing by firing: a line for each, with what the node took and what it gave.
+// The turns are those of the run's rule: the caller's list once, then sweeps from node 0 up until one fires nothing, within the allowance.
+ghost use mathlib.Core.Path.{_≡_};
+ghost use Prim.Native.Nat.{_≤_, _<_};
+ghost use lib.ListN.{length};
+ghost use Rattle.graph.specs.Graph.{nodeCount};
+ghost use Rattle.state.specs.Net.{netOf};
+ghost use Rattle.state.specs.Run.{turn, follow, sweep, finish};
+ghost use Rattle.run.specs.Numbers.{RunAnswer};
+ghost use Rattle.run.specs.Entry.{at, Runs, Below};
+use run::Ran;
+
+const ABSENT: u32 = 4294967295;
+
+const ORDER: u32 = 18;
+
+// The second wire that a node gives, where it gives two.
+fn second_output(first: u32, outputs: u32) -> u32 {
+    if outputs == 2 {
+        if first < ABSENT {
+            return first + 1;
+        }
+    }
+    ABSENT
+}
+
+// Wire k of a node: its three inputs, then its two outputs. A wire that is not there is past every state.
+fn wire_of(graph: &[u32], node: usize, k: usize) -> u32
+    requires { ⌜ (node ≤ 8192) × (k < 5) ⌝ }
+{
+    if k < 3 {
+        return drawn::row_word(graph, node, 3 + k);
+    }
+    let first = drawn::row_word(graph, node, 6);
+    if k == 3 {
+        return first;
+    }
+    second_output(first, graph::outputs_of(drawn::row_word(graph, node, 0)))
+}
+
+// Full and word of each of a node's five wires.
+fn tokens_of(graph: &[u32], state: &[u32], node: usize) -> [u32; 10]
+    requires { ⌜ node ≤ 8192 ⌝ }
+{
+    let mut tokens = [0u32; 10];
+    let mut k: usize = 0;
+    while k < 5 {
+        let place = 2 * (wire_of(graph, node, k) as usize);
+        tokens[2 * k] = drawn::word_at(state, place);
+        tokens[2 * k + 1] = drawn::word_at(state, place + 1);
+        k += 1;
+    }
+    tokens
+}
+
+// Wire and word, where there is a token that was not, or will not be, there.
+fn put_token(out: &mut [u8], at: usize, wire: u32, full: u32, other: u32, word: u32) -> usize
+    requires { ⌜ at ≤ length (now out) ⌝ }
+    ensures { λ r. ⌜ r ≤ length (now (out .entry)) ⌝ }
+{
+    if full == other {
+        return at;
+    }
+    if full == 0 {
+        return at;
+    }
+    let a = text::put_next(out, at, wire as u64);
+    let b = text::put_letter(out, a, b'=');
+    text::put_number(out, b, word as u64)
+}
+
+// The tokens of wires `from` to `end` - 1 that are there and are not among the others.
+fn put_tokens(
+    out: &mut [u8],
+    at: usize,
+    graph: &[u32],
+    node: usize,
+    there: [u32; 10],
+    others: [u32; 10],
+    from: usize,
+    end: usize,
+) -> usize
+    requires { ⌜ (at ≤ length (now out)) × (node ≤ 8192) × (from ≤ end) × (end ≤ 5) ⌝ }
+    ensures { λ r. ⌜ r ≤ length (now (out .entry)) ⌝ }
+{
+    let mut n = at;
+    let mut k = from;
+    while k < end {
+        let wire = wire_of(graph, node, k);
+        n = put_token(out, n, wire, there[2 * k], others[2 * k], there[2 * k + 1]);
+        k += 1;
+    }
+    n
+}
+
+// Where nothing was put, the word nothing.
+fn put_nothing(out: &mut [u8], before: usize, at: usize) -> usize
+    requires { ⌜ at ≤ length (now out) ⌝ }
+    ensures { λ r. ⌜ r ≤ length (now (out .entry)) ⌝ }
+{
+    if before == at {
+        return text::put(out, at, b" nothing");
+    }
+    at
+}
+
+// The firing's number and the node.
+fn put_node(out: &mut [u8], number: u64, graph: &[u32], node: usize) -> usize
+    requires { ⌜ node ≤ 8192 ⌝ }
+    ensures { λ r. ⌜ r ≤ length (now (out .entry)) ⌝ }
+{
+    let a = text::put_number(out, 0, number);
+    let b = text::put(out, a, b": node ");
+    drawn::put_name(out, b, graph, node)
+}
+
+fn put_taken(
+    out: &mut [u8],
+    at: usize,
+    graph: &[u32],
+    node: usize,
+    before: [u32; 10],
+    after: [u32; 10],
+) -> usize
+    requires { ⌜ (at ≤ length (now out)) × (node ≤ 8192) ⌝ }
+    ensures { λ r. ⌜ r ≤ length (now (out .entry)) ⌝ }
+{
+    let a = text::put(out, at, b" took");
+    let b = put_tokens(out, a, graph, node, before, after, 0, 3);
+    put_nothing(out, a, b)
+}
+
+fn put_given(
+    out: &mut [u8],
+    at: usize,
+    graph: &[u32],
+    node: usize,
+    before: [u32; 10],
+    after: [u32; 10],
+) -> usize
+    requires { ⌜ (at ≤ length (now out)) × (node ≤ 8192) ⌝ }
+    ensures { λ r. ⌜ r ≤ length (now (out .entry)) ⌝ }
+{
+    let a = text::put(out, at, b" gave");
+    let b = put_tokens(out, a, graph, node, after, before, 3, 5);
+    put_nothing(out, a, b)
+}
+
+// A firing's line.
+fn put_firing(
+    out: &mut [u8],
+    number: u64,
+    graph: &[u32],
+    node: usize,
+    before: [u32; 10],
+    after: [u32; 10],
+) -> usize
+    requires { ⌜ node ≤ 8192 ⌝ }
+    ensures { λ r. ⌜ r ≤ length (now (out .entry)) ⌝ }
+{
+    let a = put_node(out, number, graph, node);
+    let b = put_taken(out, a, graph, node, before, after);
+    let c = put_given(out, b, graph, node, before, after);
+    text::put_letter(out, c, b'\n')
+}
+
+fn tell(to: i32, number: u64, graph: &[u32], node: usize, before: [u32; 10], after: [u32; 10])
+    requires { ⌜ node ≤ 8192 ⌝ }
+{
+    let mut out = io::buffer();
+    let n = put_firing(&mut out, number, graph, node, before, after);
+    io::write_all(to, &out[..n]);
+}
+
+// Node i's turn: what is left of the allowance. The firing is told with its number.
+fn turn_of(graph: &[u32], state: &mut [u32], i: usize, left: u64, allowance: u64, to: i32) -> u64
+    requires { ⌜ Runs (now graph) (length (now state)) × (i < nodeCount (now graph)) × (left ≤ allowance) ⌝ }
+    ensures turn { λ r. ⌜ (at (now (state .exit)) r ≡ turn (netOf (now (graph .entry))) i (at (now (state .entry)) left)) × (r ≤ left) ⌝ }
+{
+    if left == 0 {
+        return left;
+    }
+    let before = tokens_of(graph, state, i);
+    if firing::fire_node(graph, state, i) {
+        let after = tokens_of(graph, state, i);
+        tell(to, allowance - left + 1, graph, i, before, after);
+        return left - 1;
+    }
+    left
+}
+
+// The caller's list once.
+fn follow_order(graph: &[u32], state: &mut [u32], order: &[u32], allowance: u64, to: i32) -> u64
+    requires { ⌜ Runs (now graph) (length (now state)) × Below (now graph) (now order) ⌝ }
+    ensures followed { λ r. ⌜ (at (now (state .exit)) r ≡ follow (netOf (now (graph .entry))) (now (order .entry)) (at (now (state .entry)) allowance)) × (r ≤ allowance) ⌝ }
+{
+    let mut left = allowance;
+    let mut k: usize = 0;
+    while k < order.len() {
+        left = turn_of(graph, state, graph::wide(order[k]), left, allowance, to);
+        k += 1;
+    }
+    left
+}
+
+// One sweep from node 0 up.
+fn sweep_once(graph: &[u32], state: &mut [u32], given: u64, allowance: u64, to: i32) -> u64
+    requires { ⌜ Runs (now graph) (length (now state)) × (given ≤ allowance) ⌝ }
+    ensures swept { λ r. ⌜ (at (now (state .exit)) r ≡ sweep (netOf (now (graph .entry))) (nodeCount (now (graph .entry))) (at (now (state .entry)) given)) × (r ≤ given) ⌝ }
+{
+    let nodes = graph::wide(graph[0]);
+    let mut left = given;
+    let mut i: usize = 0;
+    while i < nodes {
+        left = turn_of(graph, state, i, left, allowance, to);
+        i += 1;
+    }
+    left
+}
+
+// Sweeps until one fires nothing.
+fn sweep_all(graph: &[u32], state: &mut [u32], given: u64, allowance: u64, to: i32) -> u64
+    requires { ⌜ Runs (now graph) (length (now state)) × (given ≤ allowance) ⌝ }
+    ensures finished { λ r. ⌜ (at (now (state .exit)) r ≡ finish (netOf (now (graph .entry))) (nodeCount (now (graph .entry))) (at (now (state .entry)) given)) × (r ≤ given) ⌝ }
+{
+    let mut left = given;
+    loop {
+        let before = left;
+        left = sweep_once(graph, state, before, allowance, to);
+        if left == before {
+            break;
+        }
+    }
+    left
+}
+
+// A run of the lent state, each firing told on `to`. It promises what `run::run` promises, so that a run and its trace agree.
+pub fn run_told(graph: &[u32], state: &mut [u32], order: &[u32], allowance: u64, to: i32) -> Ran
+    ensures answer { λ r. ⌜ RunAnswer (now (graph .entry)) (now (state .entry)) (now (order .entry)) allowance r (now (state .exit)) ⌝ }
+{
+    let refusal = machine::state_refusal(graph, state);
+    if refusal != 0 {
+        return Ran::Refused(refusal);
+    }
+    if run::order_below(graph, order) {} else {
+        return Ran::Refused(ORDER);
+    }
+    let followed = follow_order(graph, state, order, allowance, to);
+    let left = sweep_all(graph, state, followed, allowance, to);
+    run::ended(graph, state, allowance - left)
+}
