@@ -17,6 +17,7 @@ use native.Mathlib.Omega.{arith}
 use native.Mathlib.Decide.{decLt, ℕ-discrete}
 use borrow.Author.Tests.{lt-ltb, le-ltb, eq-eqb, ne-eqb, eqb-true}
 use lib.Dec.{eqb}
+use lib.ListN.{length, length-append}
 use Rattle.word.specs.Words.{condition, update, operate}
 use Rattle.step.specs.Kinds.{out1}
 use Rattle.table.specs.Rows.{kindOf, word, size}
@@ -162,12 +163,21 @@ module _ (t : List ℕ) (S : Structure t) where
     pub gamma : Gamma tb (r .pc) (r .env) s
     pub told : (M : ℕ) → IsFor tb M → Told tb M (r .pc) (r .openings) (s .hist (stream M) out1) (s .hist (gate M) out1)
 
-  abbrev pub Onward : Reading.State → State → Type 0
-  Onward r s = (xs : List Role) × (s′ : State) × Steps (plan tb) xs s s′ × Follows r s′
+  -- from row pc the reading goes on to r, and firings lead from s there; if it goes back, there are some
+  abbrev pub Onward : ℕ → Reading.State → State → Type 0
+  Onward pc r s = (xs : List Role) × (s′ : State) × Steps (plan tb) xs s s′ × Follows r s′ × ((pc < r .pc) ⊎ (0 < length xs))
+
+  -- a path that puts a word somewhere has a firing
+  some-fire : (xs : List Role) (s s′ : State) (M w : ℕ) → Steps (plan tb) xs s s′ → s′ .hist (stream M) out1 ≡ s .hist (stream M) out1 ++ (w ∷ []) → 0 < length xs
+  some-fire [] s s′ M w P h =
+      let a = length-append (s .hist (stream M) out1) (w ∷ []) in
+      let b : length (s .hist (stream M) out1) ≡ length (s .hist (stream M) out1 ++ (w ∷ [])) = ap (λ (z : State). length (z .hist (stream M) out1)) P ∙ ap (λ (z : List ℕ). length z) h in
+      absurd (omega arith)
+  some-fire (n ∷ xs) s s′ M w P h = omega arith
 
   -- ---- a row that opens and shuts no loop
   module _ (pc : ℕ) (env : Env) (os : List Opening) (s : State) (F : Follows (Reading.at pc env os) s) (l : pc < size t) where
-    straight : (IsFor tb pc → ⊥) → (tb .row pc ≡ end → ⊥) → (env′ : Env) → Path tb g env s (suc pc) env′ (silent tb g) (silent tb g) → Onward (Reading.at (suc pc) env′ os) s
+    straight : (IsFor tb pc → ⊥) → (tb .row pc ≡ end → ⊥) → (env′ : Env) → Path tb g env s (suc pc) env′ (silent tb g) (silent tb g) → Onward pc (Reading.at (suc pc) env′ os) s
     straight nf ne env′ P = (
       P .0,
       P .1,
@@ -184,9 +194,10 @@ module _ (t : List ℕ) (S : Structure t) where
             (λ i. let i0 : tb .first M ≤ pc = i .0 in let i1 : pc ≤ tb .last M = i .1 in (omega arith, omega arith), λ i. let i0 : tb .first M ≤ suc pc = i .0 in let i1 : suc pc ≤ tb .last M = i .1 in (omega arith, omega arith))
             refl (P .4 M ∙ append-nil (s .hist (stream M) out1)) (P .5 M ∙ append-nil (s .hist (gate M) out1)) (F .told M m);
       },
+      inl (omega arith),
     )
 
-    quiet : (IsFor tb pc → ⊥) → (tb .row pc ≡ end → ⊥) → plainRow tb g (tb .row pc) ≡ true → Onward (Reading.at (suc pc) env os) s
+    quiet : (IsFor tb pc → ⊥) → (tb .row pc ≡ end → ⊥) → plainRow tb g (tb .row pc) ≡ true → Onward pc (Reading.at (suc pc) env os) s
     quiet nf ne h =
         straight nf ne env ([], s, refl, step-plain tb g pc l h env s (F .gamma), λ M. sym (append-nil (s .hist (stream M) out1)), λ M. sym (append-nil (s .hist (gate M) out1)))
 
@@ -215,7 +226,7 @@ module _ (t : List ℕ) (S : Structure t) where
 
     -- FOR, a turn starts
     module _ (env : Env) (os : List Opening) (s : State) (F : Follows (Reading.at L env os) s) (nz : env st ≢ 0) where
-      opens : (k : ℕ) → condition c (env a) (env b) ≡ suc k → Onward (Reading.at (firstOf t L) (turn t L (env a) (Reading.named t env) env) (opening L 1 ∷ os)) s
+      opens : (k : ℕ) → condition c (env a) (env b) ≡ suc k → Onward L (Reading.at (firstOf t L) (turn t L (env a) (Reading.named t env) env) (opening L 1 ∷ os)) s
       unfolding f
       opens k h =
           let P = step-open tb g L a st b u c q env s (F .gamma) nz k h in
@@ -242,10 +253,11 @@ module _ (t : List ℕ) (S : Structure t) where
                         (P .4 M ∙ ap (λ (z : List ℕ). s .hist (stream M) out1 ++ z) (say-other M (1 ∷ []) n) ∙ append-nil (s .hist (stream M) out1)) (P .5 M ∙ append-nil (s .hist (gate M) out1)) (F .told M m)
                   ];
                 }),
+            inl (let x = g .for-first L f in omega arith),
           )
 
       -- FOR, no turn
-      skips : condition c (env a) (env b) ≡ 0 → Onward (Reading.at (suc (endOf t L)) (leave t L (argNamed t env) env) (opening L 0 ∷ os)) s
+      skips : condition c (env a) (env b) ≡ 0 → Onward L (Reading.at (suc (endOf t L)) (leave t L (argNamed t env) env) (opening L 0 ∷ os)) s
       unfolding f
       skips h =
           let P = step-none tb g L a st b u c q env s (F .gamma) nz h in
@@ -272,6 +284,7 @@ module _ (t : List ℕ) (S : Structure t) where
                         (P .4 M ∙ ap (λ (z : List ℕ). s .hist (stream M) out1 ++ z) (say-other M (0 ∷ []) n) ∙ append-nil (s .hist (stream M) out1)) (P .5 M ∙ append-nil (s .hist (gate M) out1)) (F .told M m)
                   ];
                 }),
+            inl (let x = g .for-first L f in let y = g .for-last L f in omega arith),
           )
         where
           after-end : (i : ℕ) → tb .row (suc (tb .last L)) ≡ arg i → ⊥
@@ -282,7 +295,7 @@ module _ (t : List ℕ) (S : Structure t) where
       index : ℕ
       index = update u (env L) (env st)
 
-      again : (k : ℕ) → condition c index (env b) ≡ suc k → Onward (Reading.at (firstOf t L) (turn t L index (nextNamed t env) env) (oneTurn L os)) s
+      again : (k : ℕ) → condition c index (env b) ≡ suc k → Onward (tb .last L) (Reading.at (firstOf t L) (turn t L index (nextNamed t env) env) (oneTurn L os)) s
       unfolding f index
       again k h =
           let P = step-again tb g L a st b u c q env s (F .gamma) k h in
@@ -310,9 +323,10 @@ module _ (t : List ℕ) (S : Structure t) where
                         (P .5 M ∙ ap (λ (z : List ℕ). s .hist (gate M) out1 ++ z) (say-other M (1 ∷ []) n) ∙ append-nil (s .hist (gate M) out1)) (F .told M m)
                   ];
                 }),
+            inr (some-fire (P .0) s (P .1) L 1 (P .2) (P .4 L ∙ ap (λ (z : List ℕ). s .hist (stream L) out1 ++ z) (say-own L (1 ∷ []) refl))),
           )
 
-      leaves : condition c index (env b) ≡ 0 → Onward (Reading.at (suc (tb .last L)) (leave t L (Reading.named t env) env) os) s
+      leaves : condition c index (env b) ≡ 0 → Onward (tb .last L) (Reading.at (suc (tb .last L)) (leave t L (Reading.named t env) env) os) s
       unfolding f index
       leaves h =
           let P = step-leave tb g L a st b u c q env s (F .gamma) h in
@@ -339,6 +353,7 @@ module _ (t : List ℕ) (S : Structure t) where
                         (P .5 M ∙ ap (λ (z : List ℕ). s .hist (gate M) out1 ++ z) (say-other M (0 ∷ []) n) ∙ append-nil (s .hist (gate M) out1)) (F .told M m)
                   ];
                 }),
+            inl (omega arith),
           )
         where
           after-end : (i : ℕ) → tb .row (suc (tb .last L)) ≡ arg i → ⊥
@@ -346,50 +361,51 @@ module _ (t : List ℕ) (S : Structure t) where
 
   -- ---- any row
 
-  move : (a r : Reading.State) (s : State) → on a ≡ on r → Onward a s → Onward r s
-  move a r s h P = let e : a ≡ r = cc in subst (λ (z : Reading.State). Onward z s) e P
+  move : (pc : ℕ) (a r : Reading.State) (s : State) → on a ≡ on r → Onward pc a s → Onward pc r s
+  move pc a r s h P = let e : a ≡ r = cc in subst (λ (z : Reading.State). Onward pc z s) e P
 
   choose-is : (f x y : ℕ) → Reading.choose f x y ≡ choose f x y
   choose-is zero x y = refl
   choose-is (suc f) x y = refl
 
   for-step : (L a st b u c : ℕ) → tb .row L ≡ for a st b u c → (env : Env) (os : List Opening) (s : State) → Follows (Reading.at L env os) s
-      → (x : ℕ) → env st ≡ x → (y : ℕ) → condition c (env a) (env b) ≡ y → (r : Reading.State) → forStep t L (env a) env os x y ≡ on r → Onward r s
+      → (x : ℕ) → env st ≡ x → (y : ℕ) → condition c (env a) (env b) ≡ y → (r : Reading.State) → forStep t L (env a) env os x y ≡ on r → Onward L r s
   for-step L a st b u c q env os s F zero ex y ey r h = let z : _≡_ {A = ℕ} 0 1 = cc in absurd (omega arith)
   for-step L a st b u c q env os s F (suc x) ex zero ey r h =
-      move (Reading.at (suc (endOf t L)) (leave t L (argNamed t env) env) (opening L 0 ∷ os)) r s h (skips L a st b u c q env os s F (λ z. omega arith) ey)
+      move L (Reading.at (suc (endOf t L)) (leave t L (argNamed t env) env) (opening L 0 ∷ os)) r s h (skips L a st b u c q env os s F (λ z. omega arith) ey)
   for-step L a st b u c q env os s F (suc x) ex (suc y) ey r h =
-      move (Reading.at (firstOf t L) (turn t L (env a) (Reading.named t env) env) (opening L 1 ∷ os)) r s h (opens L a st b u c q env os s F (λ z. omega arith) y ey)
+      move L (Reading.at (firstOf t L) (turn t L (env a) (Reading.named t env) env) (opening L 1 ∷ os)) r s h (opens L a st b u c q env os s F (λ z. omega arith) y ey)
 
   end-step : (L a st b u c : ℕ) → tb .row L ≡ for a st b u c → (pc : ℕ) → tb .last L ≡ pc → (env : Env) (os : List Opening) (s : State) → Follows (Reading.at pc env os) s
-      → (y : ℕ) → condition c (update u (env L) (env st)) (env b) ≡ y → (r : Reading.State) → endStep t L pc (update u (env L) (env st)) env os y ≡ on r → Onward r s
+      → (y : ℕ) → condition c (update u (env L) (env st)) (env b) ≡ y → (r : Reading.State) → endStep t L pc (update u (env L) (env st)) env os y ≡ on r → Onward pc r s
   unfolding index
   end-step L a st b u c q pc e env os s F zero ey r h =
-      move (Reading.at (suc pc) (leave t L (Reading.named t env) env) os) r s h
-      (subst (λ (z : ℕ). Onward (Reading.at (suc z) (leave t L (Reading.named t env) env) os) s) e
+      move pc (Reading.at (suc pc) (leave t L (Reading.named t env) env) os) r s h
+      (subst (λ (z : ℕ). Onward z (Reading.at (suc z) (leave t L (Reading.named t env) env) os) s) e
       (leaves L a st b u c q env os s (subst (λ (z : ℕ). Follows (Reading.at z env os) s) (sym e) F) ey))
   end-step L a st b u c q pc e env os s F (suc y) ey r h =
-      move (Reading.at (firstOf t L) (turn t L (update u (env L) (env st)) (nextNamed t env) env) (oneTurn L os)) r s h
-      (again L a st b u c q env os s (subst (λ (z : ℕ). Follows (Reading.at z env os) s) (sym e) F) y ey)
+      move pc (Reading.at (firstOf t L) (turn t L (update u (env L) (env st)) (nextNamed t env) env) (oneTurn L os)) r s h
+      (subst (λ (z : ℕ). Onward z (Reading.at (firstOf t L) (turn t L (update u (env L) (env st)) (nextNamed t env) env) (oneTurn L os)) s) e
+      (again L a st b u c q env os s (subst (λ (z : ℕ). Follows (Reading.at z env os) s) (sym e) F) y ey))
 
   -- A STEP OF THE READING is a list of firings
-  pub one-step : (d : Row) (pc : ℕ) (env : Env) (os : List Opening) (s : State) → tb .row pc ≡ d → pc < size t → Follows (Reading.at pc env os) s → (r : Reading.State) → rowStep d t pc env os ≡ on r → Onward r s
+  pub one-step : (d : Row) (pc : ℕ) (env : Env) (os : List Opening) (s : State) → tb .row pc ≡ d → pc < size t → Follows (Reading.at pc env os) s → (r : Reading.State) → rowStep d t pc env os ≡ on r → Onward pc r s
   one-step input pc env os s q l F r h =
-      move (Reading.at (suc pc) env os) r s h (quiet pc env os s F l (λ m. let k = m .5 in let z : _≡_ {A = ℕ} 0 1 = cc in omega arith) (λ e. let z : _≡_ {A = ℕ} 0 1 = cc in omega arith) (ap (plainRow tb g) q))
+      move pc (Reading.at (suc pc) env os) r s h (quiet pc env os s F l (λ m. let k = m .5 in let z : _≡_ {A = ℕ} 0 1 = cc in omega arith) (λ e. let z : _≡_ {A = ℕ} 0 1 = cc in omega arith) (ap (plainRow tb g) q))
   one-step (const w) pc env os s q l F r h =
-      move (Reading.at (suc pc) env os) r s h (quiet pc env os s F l (λ m. let k = m .5 in let z : _≡_ {A = ℕ} 0 1 = cc in omega arith) (λ e. let z : _≡_ {A = ℕ} 0 1 = cc in omega arith) (ap (plainRow tb g) q))
+      move pc (Reading.at (suc pc) env os) r s h (quiet pc env os s F l (λ m. let k = m .5 in let z : _≡_ {A = ℕ} 0 1 = cc in omega arith) (λ e. let z : _≡_ {A = ℕ} 0 1 = cc in omega arith) (ap (plainRow tb g) q))
   one-step (op c x y) pc env os s q l F r h =
-      move (Reading.at (suc pc) (Reading.set pc (operate c (env x) (env y)) env) os) r s h
-      (subst (λ (z : Env). Onward (Reading.at (suc pc) z os) s) (sym (set-is pc (operate c (env x) (env y)) env))
+      move pc (Reading.at (suc pc) (Reading.set pc (operate c (env x) (env y)) env) os) r s h
+      (subst (λ (z : Env). Onward pc (Reading.at (suc pc) z os) s) (sym (set-is pc (operate c (env x) (env y)) env))
       (straight pc env os s F l (λ m. let k = m .5 in let z : _≡_ {A = ℕ} 0 1 = cc in omega arith) (λ e. let z : _≡_ {A = ℕ} 0 1 = cc in omega arith) (setTo pc (operate c (env x) (env y)) env) (step-op tb g pc c x y q env s (F .gamma))))
   one-step (pick f x y) pc env os s q l F r h =
-      move (Reading.at (suc pc) (Reading.set pc (Reading.choose (env f) (env x) (env y)) env) os) r s h
-      (subst (λ (z : Env). Onward (Reading.at (suc pc) z os) s) (sym (ap (λ (z : ℕ). Reading.set pc z env) (choose-is (env f) (env x) (env y)) ∙ set-is pc (choose (env f) (env x) (env y)) env))
+      move pc (Reading.at (suc pc) (Reading.set pc (Reading.choose (env f) (env x) (env y)) env) os) r s h
+      (subst (λ (z : Env). Onward pc (Reading.at (suc pc) z os) s) (sym (ap (λ (z : ℕ). Reading.set pc z env) (choose-is (env f) (env x) (env y)) ∙ set-is pc (choose (env f) (env x) (env y)) env))
       (straight pc env os s F l (λ m. let k = m .5 in let z : _≡_ {A = ℕ} 0 1 = cc in omega arith) (λ e. let z : _≡_ {A = ℕ} 0 1 = cc in omega arith) (setTo pc (choose (env f) (env x) (env y)) env) (step-pick tb g pc f x y q env s (F .gamma))))
   one-step (for a st b u c) pc env os s q l F r h = for-step pc a st b u c q env os s F (env st) refl (condition c (env a) (env b)) refl r h
   one-step (arg i) pc env os s q l F r h = absurd (F .plain i q)
   one-step (next v) pc env os s q l F r h =
-      move (Reading.at (suc pc) env os) r s h (quiet pc env os s F l (λ m. let k = m .5 in let z : _≡_ {A = ℕ} 0 1 = cc in omega arith) (λ e. let z : _≡_ {A = ℕ} 0 1 = cc in omega arith) (ap (plainRow tb g) q))
+      move pc (Reading.at (suc pc) env os) r s h (quiet pc env os s F l (λ m. let k = m .5 in let z : _≡_ {A = ℕ} 0 1 = cc in omega arith) (λ e. let z : _≡_ {A = ℕ} 0 1 = cc in omega arith) (ap (plainRow tb g) q))
   one-step end pc env os s q l F r h =
       let m = g .end-for pc q l in
       let e : rowAt t (bodyOf t pc) ≡ for (m .0) (m .1) (m .2) (m .3) (m .4) = sym (Tables.row-at t (bodyOf t pc) (Tables.for-kind t S (bodyOf t pc) m .0)) ∙ m .5 in
@@ -397,7 +413,7 @@ module _ (t : List ℕ) (S : Structure t) where
       (condition (m .4) (update (m .3) (env (bodyOf t pc)) (env (m .1))) (env (m .2))) refl r
       (ap (λ (z : Row). endBy z t (bodyOf t pc) pc env os) (sym e) ∙ h)
   one-step (out x) pc env os s q l F r h =
-      move (Reading.at (suc pc) env os) r s h (quiet pc env os s F l (λ m. let k = m .5 in let z : _≡_ {A = ℕ} 0 1 = cc in omega arith) (λ e. let z : _≡_ {A = ℕ} 0 1 = cc in omega arith) (ap (plainRow tb g) q))
+      move pc (Reading.at (suc pc) env os) r s h (quiet pc env os s F l (λ m. let k = m .5 in let z : _≡_ {A = ℕ} 0 1 = cc in omega arith) (λ e. let z : _≡_ {A = ℕ} 0 1 = cc in omega arith) (ap (plainRow tb g) q))
   one-step unknown pc env os s q l F r h = let k = Tables.row-kind t S pc l in let e : Tables.rowKind (tb .row pc) ≡ 9 = ap Tables.rowKind q in let m = S .kinds pc l in absurd (omega arith)
 
   -- a reading stops at a row only for a zero step
@@ -496,11 +512,11 @@ module _ (t : List ℕ) (S : Structure t) where
         outcome = e .outcome;
       })
 
-  step-below : (r : Reading.State) → r .pc < size t → step t r ≡ rowStep (rowAt t (r .pc)) t (r .pc) (r .env) (r .openings)
+  pub step-below : (r : Reading.State) → r .pc < size t → step t r ≡ rowStep (rowAt t (r .pc)) t (r .pc) (r .env) (r .openings)
   unfolding step
   step-below r l = rw (lt-ltb (r .pc) (size t) l, step)
 
-  step-past : (r : Reading.State) → size t ≤ r .pc → step t r ≡ stop (ended (resultsFrom (size t) t (r .env) 0) (reverse (r .openings)))
+  pub step-past : (r : Reading.State) → size t ≤ r .pc → step t r ≡ stop (ended (resultsFrom (size t) t (r .env) 0) (reverse (r .openings)))
   unfolding step
   step-past r l = rw (le-ltb (r .pc) (size t) l, step)
 

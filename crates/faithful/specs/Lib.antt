@@ -18,6 +18,7 @@ pub mod Carried
 pub mod Sound
 pub mod Conditions
 pub mod Following
+pub mod Endless
 -- The lowered words lay out the table.
 pub mod Sources
 pub mod Legs

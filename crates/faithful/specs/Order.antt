@@ -3,13 +3,14 @@
 --
 --   first-state               the use machine's state when the starts are spread; it follows the reading at its beginning
 --   Shows                     a list of ready firings on the words that shows a state of the use machine
---   order-shows               every path of the use machine from its first state is shown by one
+--   order-shows               every path of the use machine from its first state is shown by one, which is no shorter
 --
 -- Assumes nothing.
 use mathlib.Core.Path.{_≡_, refl, _∙_}
 use mathlib.Core.List.{List, [], _++_}
-use Prim.Native.Nat.{ℕ}
+use Prim.Native.Nat.{ℕ, _≤_}
 use native.Mathlib.Omega.{arith}
+use lib.ListN.{length, length-append}
 use Rattle.step.specs.Kinds.{Output}
 use Rattle.step.specs.Machines.{rest}
 use Rattle.graph.specs.Graph.{nodeCount}
@@ -83,7 +84,7 @@ module _ (t : List ℕ) (S : Structure t) (ok : graphRefusal (loweredWords t) �
       → put ≡ puts2 (netOf g) (xs ++ ys) Z X (steps2-append (netOf g) xs ys Z U X p q) w → puts2 (netOf g) xs Z U p w ≡ [] → puts2 (netOf g) ys U X q w ≡ said → put ≡ said
   after-starts xs ys Z U X p q w put said e a b = e ∙ puts2-both (netOf g) xs ys Z U X p q w [] said a b
 
-  pub order-shows : (path : List Role) (there : State) → Steps (plan tb) path first-state there → Shows there
+  pub order-shows : (path : List Role) (there : State) → Steps (plan tb) path first-state there → (x : Shows there) × (length path ≤ length (x .order))
   unfolding laid layout
   order-shows path there P =
       let N = netOf g in
@@ -92,14 +93,18 @@ module _ (t : List ℕ) (S : Structure t) (ok : graphRefusal (loweredWords t) �
       let r = run-shown (plan tb) N (y .layout) path (a .1) first-state there (shown0 tb N (y .layout) first (a .1) (a .3)) P in
       let q = steps2-append N (a .0) (r .0) Z (a .1) (r .1) (a .2) (r .2) in
       let f = flat-run (nodeCount g) N (y .wired) (a .0 ++ r .0) (loaded g inputs) Z (r .1) (y .node-below) (first-rep tb N (nodeCount g) y first (loaded g inputs) l) q in
-      record {
-        order = a .0 ++ r .0;
-        state = f .0;
-        tokens = r .1;
-        fires = f .1;
-        flat = f .2;
-        shown = r .3;
-        words = λ n o m.
-            after-starts (a .0) (r .0) Z (a .1) (r .1) (a .2) (r .2) (y .layout .ww (output n o)) (putOnWire g (a .0 ++ r .0) (loaded g inputs) (wireNumber t (output n o))) (there .hist n o)
-            (f .3 (y .layout .ww (output n o))) (a .4 n o m) (r .4 n o m);
-      }
+      let n = r .5 in
+      let c = length-append (a .0) (r .0) in (
+        record {
+          order = a .0 ++ r .0;
+          state = f .0;
+          tokens = r .1;
+          fires = f .1;
+          flat = f .2;
+          shown = r .3;
+          words = λ n o m.
+              after-starts (a .0) (r .0) Z (a .1) (r .1) (a .2) (r .2) (y .layout .ww (output n o)) (putOnWire g (a .0 ++ r .0) (loaded g inputs) (wireNumber t (output n o))) (there .hist n o)
+              (f .3 (y .layout .ww (output n o))) (a .4 n o m) (r .4 n o m);
+        },
+        omega arith,
+      )

@@ -6,6 +6,12 @@
 --   every-run-is-complete             so every run with that allowance, whatever its list, answers COMPLETE in that state
 --   zero-step-is-never-complete       where the reading meets a zero step, every order that rests answers ZERO STEP
 --   no-run-completes-a-fault          so no run, whatever its list and allowance, answers COMPLETE there
+--   rest-bounds-the-reading           where an order rests after F firings, the reading comes to an outcome, within a number of steps that F fixes
+--   endless-reading-never-rests       so where the reading comes to no outcome, no order rests
+--   complete-means-the-reading        an order that rests COMPLETE does so with the words of a reading that ends
+--   zero-step-means-the-reading       an order that rests in ZERO STEP does so where the reading meets a zero step
+--   rest-is-never-stranded            no order rests STRANDED
+--   complete-run-means-the-reading    so a run that answers COMPLETE leaves the words of a reading that ends
 --   written-table-is-checked          the hypothesis on the table holds of every table that `lower` has written
 --
 -- The words: `t` is a table's words, `loweredWords t` its graph's words, `loadedTable t inputs` the freshly loaded state's words.
@@ -24,8 +30,9 @@
 use mathlib.Core.Path.{_≡_, refl, sym, ap, _∙_, subst}
 use mathlib.Core.Logic.{_≢_, _⊎_, inl, inr}
 use mathlib.Core.Bool.{Bool, true, false, cond, _&&_}
+use mathlib.Core.Option.{none, some}
 use mathlib.Core.List.{List, _++_, reverse}
-use Prim.Native.Nat.{ℕ, _+_, _≤_}
+use Prim.Native.Nat.{ℕ, suc, _+_, _*_, _≤_}
 use native.Mathlib.Omega.{arith}
 use borrow.Author.Tests.{eqb-true}
 use lib.Dec.{eqb, leb}
@@ -36,12 +43,12 @@ use Rattle.graph.specs.Refusal.{graphRefusal}
 use Rattle.graph.specs.Accepted.{node-in-range}
 use Rattle.state.specs.Load.{loaded}
 use Rattle.state.specs.Net.{netOf}
-use Rattle.state.specs.Run.{COMPLETE, SPENT, ZERO-STEP, outcome}
+use Rattle.state.specs.Run.{COMPLETE, SPENT, STRANDED, ZERO-STEP, outcome}
 use Rattle.confluence.specs.Statements.{Fires, AtRest, putOnWire, every-order-rests-alike, runOf, madeBy, enough-is-not-spent, run-is-an-order}
 use Rattle.table.specs.Rows.{kindOf, size, FOR}
 use Rattle.table.specs.Check.{tableRefusal, answer}
 use Rattle.structure.specs.Structure.{Structure, passing-table-has-structure}
-use Rattle.reading.specs.Reading.{Opening, Outcome, ended, zeroStep, begin, read, resultsFrom}
+use Rattle.reading.specs.Reading.{Opening, Outcome, ended, zeroStep, begin, readFrom, read, resultsFrom}
 use Rattle.reading.specs.Outcome.{Reads}
 use Rattle.lowered.specs.Roles.{stream, gate, output}
 use Rattle.lowered.specs.Lower.{wireNumber, loweredWords}
@@ -52,6 +59,7 @@ use Rattle.faithful.specs.Table.{IsFor}
 use Rattle.faithful.specs.Tables.{tableOf, for-row}
 use Rattle.faithful.specs.Sound.{passing-is-good}
 use Rattle.faithful.specs.Following.{Ended, Faulted, followed}
+use Rattle.faithful.specs.Endless.{Far, outcome-or-far, enough-steps}
 use Rattle.faithful.specs.Finish.{finished, rests}
 use Rattle.faithful.specs.Places.{laid, num}
 use Rattle.faithful.specs.Order.{first-state, follows-first, order-shows}
@@ -139,7 +147,7 @@ module _ (t : List ℕ) (checked : checkAnswer t .number ≡ 0) where
           let tb = tableOf t in
           let N = netOf (loweredWords t) in
           let n = nodeCount (loweredWords t) in
-          let x = order-shows t S ok inputs (e .path) (e .there) (e .steps) in
+          let x = order-shows t S ok inputs (e .path) (e .there) (e .steps) .0 in
           let G = passing-is-good t S in
           let k = e .outcome in
           let kw : words ≡ resultsFrom (size t) t (e .env) 0 = cc in
@@ -218,7 +226,7 @@ module _ (t : List ℕ) (checked : checkAnswer t .number ≡ 0) where
       go (inr e) =
           let k = e .outcome in
           let d : L ≡ e .loop = cc in
-          let x = order-shows t S ok inputs (e .path) (e .there) (e .steps) in (
+          let x = order-shows t S ok inputs (e .path) (e .there) (e .steps) .0 in (
             x .order,
             x .state,
             x .fires,
@@ -243,3 +251,69 @@ module _ (t : List ℕ) (checked : checkAnswer t .number ≡ 0) where
       let m = run-is-an-order (loweredWords t) list (loadedTable t inputs) allowance (λ z. let y : COMPLETE ≡ SPENT = sym c ∙ z in omega arith) in
       let z = zero-step-is-never-complete inputs L openings r (madeBy (loweredWords t) list (loadedTable t inputs) allowance) (runOf (loweredWords t) list (loadedTable t inputs) allowance .state) (m .0) (m .1) in
       let y : COMPLETE ≡ ZERO-STEP = sym c ∙ z in omega arith
+
+  -- ---- no outcome
+
+  -- Where an order rests after F firings, (F + 1) times (rows + 1) steps bring the reading to an outcome: else the order that follows the reading
+  -- would be longer.
+  pub rest-bounds-the-reading : (inputs order u : List ℕ) → Fires (loweredWords t) order (loadedTable t inputs) u → AtRest (loweredWords t) u
+      → (o : Outcome) × (read (suc (length order) * suc (size t)) t inputs ≡ some o)
+  unfolding read begin
+  rest-bounds-the-reading inputs order u q h = go (outcome-or-far t S K (begin t inputs) (first-state t S ok inputs) (follows-first t S ok inputs))
+    where
+      K : ℕ
+      K = suc (length order) * suc (size t)
+
+      go : ((o : Outcome) × (readFrom K t (begin t inputs) ≡ some o)) ⊎ Far t S K (begin t inputs) (first-state t S ok inputs) → (o : Outcome) × (readFrom K t (begin t inputs) ≡ some o)
+      go (inl x) = x
+      go (inr x) =
+          let y = order-shows t S ok inputs (x .path) (x .there) (x .steps) in
+          let a = every-order-rests-alike (loweredWords t) ok order (loadedTable t inputs) u q h (y .0 .order) (y .0 .state) (y .0 .fires) .at-most in
+          let b = y .1 in
+          let c = enough-steps (size t) (length order) (length (x .path)) (let e = x .many in omega arith) in
+          absurd (omega arith)
+
+  -- A reading that no number of steps brings to an outcome: no order rests.
+  pub endless-reading-never-rests : (inputs : List ℕ) → ((k : ℕ) → read k t inputs ≡ none)
+      → (order u : List ℕ) → Fires (loweredWords t) order (loadedTable t inputs) u → AtRest (loweredWords t) u → ⊥
+  endless-reading-never-rests inputs endless order u q h =
+      let x = rest-bounds-the-reading inputs order u q h in
+      let e : none ≡ some (x .0) = sym (endless (suc (length order) * suc (size t))) ∙ x .1 in
+      let z : _≡_ {A = ℕ} 0 1 = cc in omega arith
+
+  -- An order that rests COMPLETE: the reading ends, and its words are the order's.
+  pub complete-means-the-reading : (inputs order u : List ℕ) → Fires (loweredWords t) order (loadedTable t inputs) u → AtRest (loweredWords t) u
+      → outcome (loweredWords t) u .answer ≡ COMPLETE → (words : List ℕ) × (openings : List Opening) × Reads t inputs (ended words openings) × AsRead t words u
+  complete-means-the-reading inputs order u q h c = let x = rest-bounds-the-reading inputs order u q h in go (x .0) (record { steps = suc (length order) * suc (size t); comes = x .1 })
+    where
+      go : (o : Outcome) → Reads t inputs o → (words : List ℕ) × (openings : List Opening) × Reads t inputs (ended words openings) × AsRead t words u
+      go (ended words openings) r = (words, openings, r, lowered-table-means-its-reading inputs words openings r .1 order u q .ends h .state)
+      go (zeroStep L openings) r = let z = zero-step-is-never-complete inputs L openings r order u q h in let y : COMPLETE ≡ ZERO-STEP = sym c ∙ z in absurd (omega arith)
+
+  -- One that rests in ZERO STEP: the reading meets one.
+  pub zero-step-means-the-reading : (inputs order u : List ℕ) → Fires (loweredWords t) order (loadedTable t inputs) u → AtRest (loweredWords t) u
+      → outcome (loweredWords t) u .answer ≡ ZERO-STEP → (L : ℕ) × (openings : List Opening) × Reads t inputs (zeroStep L openings)
+  zero-step-means-the-reading inputs order u q h c = let x = rest-bounds-the-reading inputs order u q h in go (x .0) (record { steps = suc (length order) * suc (size t); comes = x .1 })
+    where
+      go : (o : Outcome) → Reads t inputs o → (L : ℕ) × (openings : List Opening) × Reads t inputs (zeroStep L openings)
+      go (ended words openings) r =
+          let z = lowered-table-means-its-reading inputs words openings r .1 order u q .ends h .answer in
+          let y : COMPLETE ≡ ZERO-STEP = sym z ∙ c in absurd (omega arith)
+      go (zeroStep L openings) r = (L, openings, r)
+
+  -- None rests STRANDED.
+  pub rest-is-never-stranded : (inputs order u : List ℕ) → Fires (loweredWords t) order (loadedTable t inputs) u → AtRest (loweredWords t) u → outcome (loweredWords t) u .answer ≢ STRANDED
+  rest-is-never-stranded inputs order u q h c = let x = rest-bounds-the-reading inputs order u q h in go (x .0) (record { steps = suc (length order) * suc (size t); comes = x .1 })
+    where
+      go : (o : Outcome) → Reads t inputs o → ⊥
+      go (ended words openings) r =
+          let z = lowered-table-means-its-reading inputs words openings r .1 order u q .ends h .answer in
+          let y : COMPLETE ≡ STRANDED = sym z ∙ c in omega arith
+      go (zeroStep L openings) r = let z = zero-step-is-never-complete inputs L openings r order u q h in let y : ZERO-STEP ≡ STRANDED = sym z ∙ c in omega arith
+
+  -- So of a run, whatever its list and allowance.
+  pub complete-run-means-the-reading : (inputs list : List ℕ) (allowance : ℕ) → let p = runOf (loweredWords t) list (loadedTable t inputs) allowance in
+      outcome (loweredWords t) (p .state) .answer ≡ COMPLETE → (words : List ℕ) × (openings : List Opening) × Reads t inputs (ended words openings) × AsRead t words (p .state)
+  complete-run-means-the-reading inputs list allowance c =
+      let m = run-is-an-order (loweredWords t) list (loadedTable t inputs) allowance (λ z. let y : COMPLETE ≡ SPENT = sym c ∙ z in omega arith) in
+      complete-means-the-reading inputs (madeBy (loweredWords t) list (loadedTable t inputs) allowance) (runOf (loweredWords t) list (loadedTable t inputs) allowance .state) (m .0) (m .1) c

@@ -4,7 +4,7 @@
 --   Layout                    where the roles, wires and uses of a plan stand in a net, and which forks or drain spread each wire
 --   Shown                     the net's tokens and records show a state of the use machine; the wires between forks are empty
 --   fire-shown                one firing
---   run-shown                 so every run of the use machine is one of the net, with the same words on each wire
+--   run-shown                 so every run of the use machine is one of the net, no shorter and with the same words on each wire
 --
 -- Idea: a wire and the wires behind it form a tree; trees of different wires are apart; a role that gives on a wire finds its tree empty.
 -- Assumes nothing.
@@ -13,11 +13,12 @@ use mathlib.Core.Logic.{_≢_, _⊎_, inl, inr}
 use mathlib.Core.Bool.{Bool, true, false}
 use mathlib.Core.Option.{Option, none, some}
 use mathlib.Core.List.{List, [], _∷_, _++_, append-nil, append-assoc}
-use Prim.Native.Nat.{ℕ}
+use Prim.Native.Nat.{ℕ, _≤_, _<_}
 use native.Mathlib.Omega.{arith}
 use native.Mathlib.Decide.{ℕ-discrete}
 use borrow.Author.Tests.{eq-eqb, ne-eqb}
 use lib.Dec.{eqb}
+use lib.ListN.{length, length-append}
 use Rattle.step.specs.Kinds.{Input, in0, in1, in2, Output, out0, out1}
 use Rattle.step.specs.Firing.{View, Effect, perform, waits, room, takes, gives}
 use Rattle.step.specs.Machines.{rest}
@@ -495,6 +496,7 @@ module _ (plan : Plan) (net : Net) (y : Layout plan net) where
     -- ONE FIRING: the node, then the forks or the drain of what it gave
     pub fire-shown : (is : List ℕ) × (B : Tokens) × (q : Steps2 net is Z B) × Shown B (after plan (one n e) s)
         × ((m : Role) (o : Output) → Made plan (output m o) → s .hist m o ++ puts2 net is Z B q (y .ww (output m o)) ≡ after plan (one n e) s .hist m o)
+        × (0 < length is)
     fire-shown =
         let r0 = go-out out0 Z1 (λ z h. root1 out0 z h) (λ z h x t. below1 out0 z h x t) (λ z h j t. fork1 (output n out0) (made out0 z h) j t) in
         let A = r0 .1 in
@@ -508,13 +510,15 @@ module _ (plan : Plan) (net : Net) (y : Layout plan net) where
           (e, fires, steps2-append net (r0 .0) (r1 .0) Z1 A (r1 .1) (r0 .2) (r1 .2)),
           shown3 A (r1 .1) a (r1 .3),
           λ m o mm. fire-words m o mm (r0 .0) (r1 .0) A (r1 .1) (r0 .2) (r1 .2) (r0 .4 (y .ww (output m o)) (root-not-tail m o mm out0)) (r1 .4 (y .ww (output m o)) (root-not-tail m o mm out1)),
+          omega arith,
         )
 
   -- A RUN of the use machine is one of the real graph
   pub run-shown : (ns : List Role) (Z : Tokens) (s t : State) → Shown Z s → Steps plan ns s t
       → (is : List ℕ) × (B : Tokens) × (q : Steps2 net is Z B) × Shown B t
       × ((m : Role) (o : Output) → Made plan (output m o) → s .hist m o ++ puts2 net is Z B q (y .ww (output m o)) ≡ t .hist m o)
-  run-shown [] Z s t R q = ([], Z, refl, subst (λ (u : State). Shown Z u) q R, λ m o mm. append-nil (s .hist m o) ∙ ap (λ (u : State). u .hist m o) q)
+      × (length ns ≤ length is)
+  run-shown [] Z s t R q = ([], Z, refl, subst (λ (u : State). Shown Z u) q R, λ m o mm. append-nil (s .hist m o) ∙ ap (λ (u : State). u .hist m o) q, omega arith)
   run-shown (n ∷ ns) Z s t R q =
       let f = fire-shown Z s R n (q .0) (q .1) in
       let r = run-shown ns (f .1) (after plan (one n (q .0)) s) t (f .3) (q .2) in (
@@ -525,4 +529,5 @@ module _ (plan : Plan) (net : Net) (y : Layout plan net) where
         λ m o mm. ap (λ (l : List ℕ). s .hist m o ++ l) (puts2-append net (f .0) (r .0) Z (f .1) (r .1) (f .2) (r .2) (y .ww (output m o)))
             ∙ sym (append-assoc (s .hist m o) (puts2 net (f .0) Z (f .1) (f .2) (y .ww (output m o))) (puts2 net (r .0) (f .1) (r .1) (r .2) (y .ww (output m o))))
             ∙ ap (λ (l : List ℕ). l ++ puts2 net (r .0) (f .1) (r .1) (r .2) (y .ww (output m o))) (f .4 m o mm) ∙ r .4 m o mm,
+        let a = f .5 in let b = r .5 in let c = length-append (f .0) (r .0) in omega arith,
       )
