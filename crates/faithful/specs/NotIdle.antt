@@ -4,14 +4,17 @@
 --   no-turn-leaves-nothing            P11: every order that rests leaves 0; one zero has passed raw, nothing gated, and nothing stays behind
 --   the-inner-loop-opens-anew         P12: the result is 5; the inner loop's openings have 0, 1 and 2 turns
 --   a-zero-step-is-answered           the sum table with step 0: every order that rests answers ZERO STEP
+--   an-endless-loop-never-rests       a loop that goes on while its index is at most 0, and it stays 0: no order rests
 --
 -- Assumes nothing.
-use mathlib.Core.Path.{_≡_, refl}
+use mathlib.Core.Path.{_≡_, refl, ap₂}
 use mathlib.Core.Bool.{Bool, true, cond}
-use mathlib.Core.Option.{some}
+use mathlib.Core.Option.{none, some}
 use mathlib.Core.List.{List, [], _∷_}
-use Prim.Native.Nat.{ℕ}
+use Prim.Native.Nat.{ℕ, zero, suc}
+use native.Mathlib.Omega.{arith}
 use lib.Dec.{eqb}
+use Rattle.word.specs.Words.{condition, update}
 use Rattle.graph.specs.Graph.{resultAt}
 use Rattle.state.specs.State.{tokenAt}
 use Rattle.state.specs.Run.{COMPLETE, ZERO-STEP, outcome}
@@ -19,13 +22,15 @@ use Rattle.confluence.specs.Statements.{Fires, AtRest, putOnWire}
 use Rattle.table.specs.Rows.{size, usedWords, operandCount, firstOperand, sortOf, wantedSort}
 use Rattle.table.specs.Scan.{after, stackAt, bodyOf, readStack, reads, homeBy, home, bodyOpen, endPassed, visible}
 use Rattle.table.specs.Check.{Refusal, answer, tableRefusal, lengthRight, kindRight, zerosFrom, spareRight, codeRight, follows, stands, placeRight, depthRight, namesFrom, namesRight, typesFrom, typesRight, endRight, rowRefusal, rowsFrom}
-use Rattle.table.specs.Cases.{sumTable, sumBy, p12Table, sum-passes, p12-passes}
+use Rattle.table.specs.Bodies.{rowBy, rowAt, ends, endFrom, endOf, argsFrom, argsOf, firstOf, isArg, isNext, argOf, nextOf}
+use Rattle.table.specs.Cases.{const, loop, arg, next, close, out, sumTable, sumBy, p12Table, sum-passes, p12-passes}
+use Rattle.reading.specs.Reading.{Env, Opening, at, nextNamed, oneTurn, endStep, inputsBelow, firstWords, begin, turn, step, andThen, readFrom, read}
 use Rattle.reading.specs.Cases.{p10-reads-10, p11-reads-0, p12-reads-5, zero-step-at-row-3}
 use Rattle.lowered.specs.Lower.{loweredWords}
 use Rattle.lowered.specs.Room.{ROOM, hasRoom, refusedBy, checkAnswer}
 use Rattle.lowered.specs.Cases.{lowering-computes}
 use Rattle.faithful.specs.Conditions.{turnsOf}
-use Rattle.faithful.specs.Statements.{loadedTable, rawWire, gatedWire, lowered-table-means-its-reading, zero-step-is-never-complete}
+use Rattle.faithful.specs.Statements.{loadedTable, rawWire, gatedWire, lowered-table-means-its-reading, zero-step-is-never-complete, endless-reading-never-rests}
 
 -- a table that passes 1 to 9 and has room is checked
 checked : (n : ℕ) (R : Refusal) (b : Bool) → R ≡ answer 0 0 → b ≡ true → cond (eqb (R .number) 0) (cond b (answer 0 0) (answer ROOM n)) R .number ≡ 0
@@ -91,3 +96,44 @@ zero-is-checked = checked (size (sumBy 0)) (tableRefusal (sumBy 0)) (hasRoom (su
 pub a-zero-step-is-answered : (order u : List ℕ) → Fires (loweredWords (sumBy 0)) order (loadedTable (sumBy 0) (5 ∷ [])) u → AtRest (loweredWords (sumBy 0)) u
     → outcome (loweredWords (sumBy 0)) u .answer ≡ ZERO-STEP
 a-zero-step-is-answered order u f h = zero-step-is-never-complete (sumBy 0) zero-is-checked (5 ∷ []) 3 [] zero-step-at-row-3 order u f h
+
+-- ---- a loop for ever: the index starts at 0, is multiplied by 1, and 0 <= 0
+
+abbrev pub stayTable : List ℕ
+stayTable = const 0 (const 1 (loop 0 1 0 2 1 (arg 0 (next 3 (close (out 4))))))
+
+stay-passes : tableRefusal stayTable ≡ answer 0 0
+unfolding usedWords operandCount firstOperand sortOf wantedSort after stackAt bodyOf readStack reads homeBy home bodyOpen endPassed visible lengthRight kindRight zerosFrom spareRight codeRight follows stands placeRight depthRight namesFrom namesRight typesFrom typesRight endRight rowRefusal rowsFrom tableRefusal
+stay-passes = refl
+
+stay-has-room : hasRoom stayTable ≡ true
+unfolding hasRoom lowering-computes
+stay-has-room = refl
+
+pub stay-is-checked : checkAnswer stayTable .number ≡ 0
+unfolding checkAnswer refusedBy
+stay-is-checked = checked (size stayTable) (tableRefusal stayTable) (hasRoom stayTable) stay-passes stay-has-room
+
+-- at NEXT and at END, in whatever turn
+in-the-body : (k : ℕ) (env : Env) (os : List Opening) → env 0 ≡ 0 → env 1 ≡ 1 → env 2 ≡ 0
+    → (readFrom k stayTable (at 4 env os) ≡ none) × (readFrom k stayTable (at 5 env os) ≡ none)
+unfolding condition update after stackAt bodyOf rowBy rowAt ends endFrom endOf argsFrom argsOf firstOf isArg isNext argOf nextOf turn step readFrom
+in-the-body zero env os a b c = (refl, refl)
+in-the-body (suc k) env os a b c =
+    let x : update 2 (env 2) (env 1) ≡ 0 = ap₂ (update 2) c b in
+    (in-the-body k env os a b c .1, again (λ e. in-the-body k e (oneTurn 2 os)) (update 2 (env 2) (env 1)) (condition 1 (update 2 (env 2) (env 1)) (env 0)) x (ap₂ (condition 1) x a))
+  where
+    again : ((e : Env) → e 0 ≡ 0 → e 1 ≡ 1 → e 2 ≡ 0 → (readFrom k stayTable (at 4 e (oneTurn 2 os)) ≡ none) × (readFrom k stayTable (at 5 e (oneTurn 2 os)) ≡ none))
+        → (x y : ℕ) → x ≡ 0 → y ≡ 1 → andThen (endStep stayTable 2 5 x env os y) (λ s. readFrom k stayTable s) ≡ none
+    again later x zero ex ey = absurd (omega arith)
+    again later x (suc y) ex ey = later (turn stayTable 2 x (nextNamed stayTable env) env) a b ex .0
+
+pub stay-reads-for-ever : (k : ℕ) → read k stayTable [] ≡ none
+unfolding condition update after stackAt bodyOf rowBy rowAt ends endFrom endOf argsFrom argsOf firstOf isArg isNext argOf nextOf inputsBelow firstWords begin turn step readFrom read
+stay-reads-for-ever zero = refl
+stay-reads-for-ever (suc zero) = refl
+stay-reads-for-ever (suc (suc zero)) = refl
+stay-reads-for-ever (suc (suc (suc k))) = in-the-body k _ _ refl refl refl .0
+
+pub an-endless-loop-never-rests : (order u : List ℕ) → Fires (loweredWords stayTable) order (loadedTable stayTable []) u → AtRest (loweredWords stayTable) u → ⊥
+an-endless-loop-never-rests = endless-reading-never-rests stayTable stay-is-checked [] stay-reads-for-ever
