@@ -1,13 +1,13 @@
 -- The words of a graph from scratch rows: each part as a list, one number after another.
 --
 --   rowInputs, rowOuts            the sources of a row's inputs, of a result
---   Sourced, Sources              they are X or have a place
+--   Sourced                       they are X or have a place
 --   standOf                       the wire on which the next use of a source stands
 --   rowWords, outWords            a row's words, a result's word
 --   sets-append                   one part behind another
 --
 -- Assumes nothing.
-use Prim.Native.Nat.{ℕ, zero, suc, _+_, _-_, _*_, _<_, _≤_}
+use Prim.Native.Nat.{ℕ, zero, suc, _+_, _*_, _<_, _≤_}
 use mathlib.Core.Path.{_≡_, sym, ap, _∙_}
 use mathlib.Core.Bool.{cond}
 use mathlib.Core.List.{List, [], _∷_, _++_}

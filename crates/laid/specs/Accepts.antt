@@ -3,7 +3,6 @@
 --   inputs-are-numbered               the inputs are numbered 0, 1, .. in order
 --   lowered-graph-is-accepted         the facts of an accepted graph
 --   lowered-graph-is-not-refused      graphRefusal is 0
---   header-counts                     the header's four counts are those of the definition
 --
 -- Assumes nothing.
 use Prim.Native.Nat.{ℕ, zero, suc, _+_, _-_, _≤_, _<_}

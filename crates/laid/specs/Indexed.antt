@@ -3,7 +3,7 @@
 --   joined-along, total-along         from numbers to the list
 --   joined-same, total-same           of functions that agree below n
 --   each-long, each-at                a list of equal pieces: its length, and the words of one piece
---   each-append, each-same
+--   each-append, joined-first, total-first
 --
 -- Assumes nothing.
 use Prim.Native.Nat.{ℕ, zero, suc, _+_, _*_, _<_}

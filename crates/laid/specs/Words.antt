@@ -1,7 +1,7 @@
 -- The words of a lowered table, read back as document 01's graph reads them: counts, starts, results, nodes.
 --
 --   node-at           node i is the i-th lowered node
---   start-at          start k is the k-th INPUT or CONST row's
+--   start-kind-at, start-word-at      start k is the k-th INPUT or CONST row's
 --   result-at         result k stands where the k-th OUT row's use stands
 --   words-long        the length is 4 + 2S + R + 7n
 --

@@ -4,7 +4,7 @@
 --   Counted               the counts are known
 --   Ready                 the scratch is right, the tables are filled
 --   Measured              what measuring a table answers
---   uses-of, free-of      the tables hold the uses and the free numbers of every wire
+--   uses-of               the table of uses holds the uses of every wire
 --   node-total-of, wire-total-of      the counts with forks
 --   ready-results, ready-rows, ready-forks        each part written is the graph's
 --

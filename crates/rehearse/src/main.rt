@@ -374,6 +374,10 @@ fn command_of(name: &[u8]) -> u32 {
 }
 
 fn start(name: &[u8]) {
+    if name.len() == 0 {
+        usage();
+        return;
+    }
     if text::same(name, b"calls") {
         calls::serve(0, STDOUT_FILENO);
         return;

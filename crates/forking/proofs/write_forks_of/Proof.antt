@@ -1,6 +1,5 @@
 -- `forking::write_forks_of` meets its contract. A drain where there is no use, else the chain.
 -- Assumes nothing.
-use Prim.Native.Nat.{_-_}
 use native.Mathlib.Omega.{arith}
 use borrow.Author.Needs.{needs}
 use lib.ListN.{length}
