@@ -5,6 +5,7 @@
 --   calls-rehearse-the-reading    where the reading ends there is one F: with an allowance of F or more every three calls are answered COMPLETE with F
 --                                 firings, and the state holds the reading's words and nothing else
 --   calls-meet-the-fault          where it meets a zero step, they are answered SPENT or ZERO STEP
+--   complete-calls-read           where they are answered COMPLETE, the reading ends, and the state holds its words and nothing else
 --   FireCalls                     calls of `fire` one after another, each answered that the node has fired
 --   fire-calls-are-firings        they are firings of the rule, in that order
 --   fire-calls-rehearse-the-reading   so every order that a caller makes of them, until no node is ready, is F long and ends in the same state
@@ -42,7 +43,7 @@ use Rattle.lowered.specs.Room.{checkAnswer, lowerAnswer, lentAfter}
 use Rattle.lowering.specs.Answers.{LowerAnswer}
 use Rattle.faithful.specs.Endings.{AsRead}
 use Rattle.faithful.specs.Statements.{EndsAsRead, loadedTable, lowered-table-means-its-reading}
-use Rattle.demands.specs.Rehearsal.{Graph, graph-is-lowered, only-the-list-is-refused, loaded-is, rehearsal-is-the-reading, rehearsal-meets-the-fault}
+use Rattle.demands.specs.Rehearsal.{Graph, graph-is-lowered, only-the-list-is-refused, loaded-is, rehearsal-is-the-reading, rehearsal-meets-the-fault, complete-is-the-reading}
 
 pub record Called (t lent inputs s list : List ℕ) (a : ℕ) (q : Ran) (end : List ℕ) : Type 0 where
   pub row : ℕ
@@ -110,6 +111,14 @@ module _ (t : List ℕ) (checked : checkAnswer t .number ≡ 0) (inputs : List �
   calls-meet-the-fault L openings r lent s list a q end c =
       subst (λ (x : Ran). (ranOutcome x .answer ≡ SPENT) ⊎ (ranOutcome x .answer ≡ ZERO-STEP)) (sym (answered t lent inputs s list a q end c))
       (rehearsal-meets-the-fault t checked inputs L openings r lent (written-by t lent inputs s list a q end c) s list a (load-passes t lent inputs s list a q end c) (run-passes t lent inputs s list a q end c))
+
+  -- AND BACK, WHERE THEY ARE ANSWERED COMPLETE
+  pub complete-calls-read : (lent s list : List ℕ) (a F : ℕ) (q : Ran) (end : List ℕ) → Called t lent inputs s list a q end → q ≡ Complete F
+      → (words : List ℕ) × (openings : List Opening) × Reads t inputs (ended words openings) × AsRead t words end
+  complete-calls-read lent s list a F q end c e =
+      let x = complete-is-the-reading t checked inputs lent (written-by t lent inputs s list a q end c) s list a F (load-passes t lent inputs s list a q end c) (run-passes t lent inputs s list a q end c)
+      (sym (answered t lent inputs s list a q end c) ∙ e) in
+      (x .0, x .1, x .2, subst (AsRead t (x .0)) (sym (left t lent inputs s list a q end c)) (x .3))
 
 -- ---- firing by firing
 pub data FireCalls (g : List ℕ) : List ℕ → List ℕ → List ℕ → Type 0 where

@@ -8,6 +8,7 @@
 --                                 and whatever its list, leaves the reading's words and nothing else, and has passed N + 1 raw and N gated conditions for
 --                                 each opening of N turns
 --   rehearsal-meets-the-fault     where it meets a zero step, every run is SPENT or answers ZERO STEP
+--   complete-is-the-reading       a run that answers COMPLETE: the plain reading ends, and the run has left its words and nothing else
 --
 -- Assumes nothing.
 use Prim.Native.Nat.{ℕ, _+_, _-_, _≤_}
@@ -39,7 +40,7 @@ use Rattle.lowered.specs.Lower.{loweredWords}
 use Rattle.lowered.specs.Room.{checkAnswer, lowerRefusal, lowerAnswer, lentAfter}
 use Rattle.laid.specs.Answers.{success-writes-the-graph-first, written-graph-is-accepted, written-graph-fits}
 use Rattle.faithful.specs.Endings.{AsRead}
-use Rattle.faithful.specs.Statements.{loadedTable, ConditionsTold, lowered-table-means-its-reading, every-run-is-complete, zero-step-is-never-complete}
+use Rattle.faithful.specs.Statements.{loadedTable, ConditionsTold, lowered-table-means-its-reading, every-run-is-complete, zero-step-is-never-complete, complete-run-means-the-reading}
 
 -- the words that `lower` has written
 abbrev pub Graph : List ℕ → List ℕ → List ℕ
@@ -158,3 +159,14 @@ module _ (t : List ℕ) (checked : checkAnswer t .number ≡ 0) where
       shown =
           ap (λ x. ranOutcome x .answer) (answer-is t lent w inputs s loads list a runs)
           ∙ ap (λ o. o .answer) (ran-shown (loweredWords t) (end t lent w inputs s loads list a runs) (made t lent w inputs s loads list a runs) .1)
+
+  -- WHERE A RUN ANSWERS COMPLETE the reading ends, and the run has left its words
+  pub complete-is-the-reading : (inputs lent : List ℕ) → lowerAnswer t (length lent) .number ≡ 0 → (s list : List ℕ) (a F : ℕ) → loadRefusal (Graph t lent) inputs s ≡ 0 → runRefusal (Graph t lent) (loadState (Graph t lent) inputs s) list ≡ 0
+      → runAnswer (Graph t lent) (loadState (Graph t lent) inputs s) list a ≡ Complete F
+      → (words : List ℕ) × (openings : List Opening) × Reads t inputs (ended words openings) × AsRead t words (runState (Graph t lent) (loadState (Graph t lent) inputs s) list a)
+  complete-is-the-reading inputs lent w s list a F loads runs e =
+      let c : outcome (loweredWords t) (end t lent w inputs s loads list a runs) .answer ≡ COMPLETE
+      = sym (ap (λ o. o .answer) (ran-shown (loweredWords t) (end t lent w inputs s loads list a runs) (made t lent w inputs s loads list a runs) .1))
+      ∙ ap (λ x. ranOutcome x .answer) (sym (answer-is t lent w inputs s loads list a runs) ∙ e) in
+      let x = complete-run-means-the-reading t checked inputs list a c in
+      (x .0, x .1, x .2, subst (AsRead t (x .0)) (sym (state-is t lent w inputs s loads list a runs)) (x .3))
