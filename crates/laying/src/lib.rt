@@ -143,7 +143,6 @@ fn enter(
 // The wire on which value v comes to body b: at home its own; else that of the copy made for loop b, its own source found one loop further out.
 fn resolve(
     table: &[u32],
-    n: u32,
     bodies: &[u32; 512],
     nodes: &[u32; 512],
     wires: &[u32; 512],
@@ -155,7 +154,7 @@ fn resolve(
     own: u32,
     b: u32,
 ) -> u32
-    requires { ⌜ Passing (now table) n × Bodies (now table) n (now bodies) × (v < n) × (h ≡ home (now table) v) × OnTheWay (now table) v b × Carries (now table) v b × Room (now table) (now nodes) (now wires) × Entering (now table) v (now counts) (now lasts) × (length (now rows) ≡ 28672) ⌝ }
+    requires { ⌜ Passing (now table) (size (now table)) × Bodies (now table) (size (now table)) (now bodies) × (v < size (now table)) × (h ≡ home (now table) v) × OnTheWay (now table) v b × Carries (now table) v b × Room (now table) (now nodes) (now wires) × Entering (now table) v (now counts) (now lasts) × (length (now rows) ≡ 28672) ⌝ }
     ensures { λ w. ⌜ Resolved (now (table .entry)) v b (now (nodes .entry)) (now (wires .entry)) own (now (lasts .entry)) (now (rows .entry)) (now (counts .exit)) (now (lasts .exit)) (now (rows .exit)) w ⌝ }
 {
     if b == h {
@@ -164,7 +163,6 @@ fn resolve(
     let around = carrying::noted_at(bodies, b);
     let outer = resolve(
         table,
-        n,
         bodies,
         nodes,
         wires,
@@ -202,7 +200,6 @@ fn resolve_use(
     let b = carrying::reads_of(table, bodies, p / 3);
     let w = resolve(
         table,
-        n,
         bodies,
         nodes,
         wires,

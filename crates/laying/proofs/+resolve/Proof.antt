@@ -1,7 +1,7 @@
 -- `laying::resolve` meets its contract. It calls itself for the enclosing loop: the rank of the body falls, until home is reached. Assumes nothing.
 use native.Mathlib.Omega.{arith}
+use Rattle.table.specs.Rows.{size}
 use Rattle.carrying.specs.Way.{rank, below, noted, way-on, rank-below}
-use Rattle.carrying.specs.Sized.{sized}
 use Rattle.laying.proofs.Copies.{at-home, takes, carries-on, resolved-on}
 use Prim.Native.Nat.{ℕ, _<_}
 use borrow.Fn.Kinds.{In}
@@ -15,7 +15,7 @@ use Rattle.laying.proofs.+resolve.{statement}
 use Rattle.laying.proofs.+resolve.Tie.{close}
 
 abbrev μ-resolve : Measures 7 resolve-kinds.ps ℕ
-μ-resolve κs a = rank (a .1 .0) (a .1 .1 .1 .1 .1 .1 .1 .1 .1 .1 .1 .0)
+μ-resolve κs a = rank (size (a .0 .now)) (a .1 .1 .1 .1 .1 .1 .1 .1 .1 .1 .0)
 
 abbrev resolve-at : ℕ → In 7 resolve-kinds.ps
 resolve-at t = and 7 resolve-kinds.ps (is 7 resolve-kinds.ps μ-resolve t) resolve.Pre
@@ -69,7 +69,7 @@ resolve-enter-requires : (t : ℕ) → resolve-lts.Need-enter-requires (
 ) (resolve-at t) resolve.Post
 resolve-enter-requires t c κs = let P = c .before .before .before .before .before .before .before .before .before .before .pre .1 in
     let R = c .before .before .before .resolve .ensures in
-    (sized _ _ (P .0), takes _ _ (P .0) _ _ _ (P .3) (c .before .before .before .before .before .before .before .before .if1 .left) (P .4) (P .5) (P .2), P .6, R .next, R .long)
+    (P .0, takes _ _ (P .0) _ _ _ (P .3) (c .before .before .before .before .before .before .before .before .if1 .left) (P .4) (P .5) (P .2), P .6, R .next, R .long)
 
 resolve-returns-2 : (t : ℕ) → resolve-lts.Need-returns-2 (
   noted-at-reads.Asked,

@@ -17,7 +17,7 @@ reads-of-requires c κs = let P = c .before .before .before .pre in (sized _ _ (
 resolve-requires : tie.Need-resolve-requires
 resolve-requires c κs = let P = c .before .before .before .before .before .before .before .pre in
     let b = c .before .before .before .reads-of .ensures in
-    (P .0, P .1, value-below _ _ (P .0) _ _ (P .3), c .before .before .before .before .before .home-of .ensures, way _ _ (P .0) _ _ (P .3) _ b, carried-on-the-way _ _ (P .0) _ _ (P .3) _ b, P .4, P .5, P .6)
+    (sized _ _ (P .0), bodies-sized _ _ (P .0) _ (P .1), row-sized _ _ (P .0) _ (value-below _ _ (P .0) _ _ (P .3)), c .before .before .before .before .before .home-of .ensures, way _ _ (P .0) _ _ (P .3) _ b, carried-on-the-way _ _ (P .0) _ _ (P .3) _ b, P .4, P .5, P .6)
 
 mul-at : tie.Need-mul-at
 mul-at c = search needs
