@@ -3,11 +3,10 @@
 --   rank                      falls along the way
 --   is-loop, below            a body on the way that is not home is a loop
 --   way-on, rank-falls        the body around it is on the way, and its rank is less
---   operand-below, operand-way        an operand is an earlier value, and its way starts where it is read
 --
 -- Assumes nothing.
 use Prim.Native.Nat.{ℕ, suc, _<_}
-use mathlib.Core.Path.{_≡_, sym, ap, _∙_, subst, subst₂}
+use mathlib.Core.Path.{_≡_, sym, _∙_, subst}
 use mathlib.Core.Logic.{_≢_, _⊎_, inl, inr}
 use mathlib.Core.Bool.{cond}
 use mathlib.Core.List.{List}
@@ -16,12 +15,11 @@ use native.Mathlib.Decide.{ℕ-discrete}
 use borrow.Author.Tests.{eq-eqb, ne-eqb}
 use lib.Dec.{eqb}
 use lib.ListN.{getD}
-use Rattle.table.specs.Rows.{kindOf, size, operandCount}
-use Rattle.table.specs.Scan.{bodyOf, home, reads}
-use Rattle.table.specs.Bodies.{operand}
+use Rattle.table.specs.Rows.{kindOf, size}
+use Rattle.table.specs.Scan.{bodyOf, home}
 use Rattle.structure.specs.Spans.{Encloses}
 use Rattle.structure.specs.Structure.{Structure, right-table-has-structure}
-use Rattle.laid.specs.Scanned.{out-of, at-the-rim, around-body, reads-body-or-rim}
+use Rattle.laid.specs.Scanned.{out-of, at-the-rim, around-body}
 use Rattle.carrying.specs.Kept.{Passing, Bodies, OnTheWay}
 
 -- the nesting falls: the outermost body is 0, a loop its FOR row and one
@@ -71,21 +69,3 @@ module _ (t : List ℕ) (n : ℕ) (p : Passing t n) where
   -- the body around, as noted
   pub noted : (b x : ℕ) (bodies : List ℕ) → Bodies t n bodies → b < n → x ≡ getD bodies b 0 → x ≡ bodyOf t b
   noted b x bodies B l e = e ∙ B .body b l
-
-  -- ---- operands
-  count-is : (r m k : ℕ) → k ≡ kindOf t r → m ≡ operandCount k → m ≡ operandCount (kindOf t r)
-  count-is r m k e d = d ∙ ap operandCount e
-
-  pub operand-below : (r m k j v : ℕ) → r < n → k ≡ kindOf t r → m ≡ operandCount k → j < m → v ≡ operand t r j → v < n
-  operand-below r m k j v l e d h q =
-      let rows = p .rows in
-      let c = count-is r m k e d in
-      let b = S .operands r j (omega arith) (omega arith) .before in
-      omega arith
-
-  pub operand-way : (r m k j v b : ℕ) → r < n → k ≡ kindOf t r → m ≡ operandCount k → j < m → v ≡ operand t r j → b ≡ reads t r → OnTheWay t v b
-  operand-way r m k j v b l e d h q w =
-      let rows = p .rows in
-      let c = count-is r m k e d in
-      subst₂ (OnTheWay t) (sym q) (sym w)
-      (record { around = S .operands r j (omega arith) (omega arith) .at-home; body = reads-body-or-rim t S r (omega arith) })

@@ -98,8 +98,8 @@ pub fn noted_at(notes: &[u32; 512], r: u32) -> u32
 }
 
 // The body before the row behind r: a FOR opens its own, an END leads back to the one around, every other row stays.
-fn body_after(table: &[u32], n: u32, bodies: &[u32; 512], r: u32, b: u32) -> u32
-    requires { ⌜ Passing (now table) n × Bodies (now table) r (now bodies) × (r < n) × (b ≡ bodyOf (now table) r) ⌝ }
+fn body_after(table: &[u32], bodies: &[u32; 512], r: u32, b: u32) -> u32
+    requires { ⌜ Passing (now table) (size (now table)) × Bodies (now table) r (now bodies) × (r < size (now table)) × (b ≡ bodyOf (now table) r) ⌝ }
     ensures { λ x. ⌜ x ≡ bodyOf (now (table .entry)) (r + 1) ⌝ }
 {
     let kind = kind_at(table, r);
@@ -122,7 +122,7 @@ pub fn note_bodies(table: &[u32], n: u32) -> [u32; 512]
     let mut r: u32 = 0;
     while r < n {
         bodies[r as usize] = b;
-        b = body_after(table, n, &bodies, r, b);
+        b = body_after(table, &bodies, r, b);
         r += 1;
     }
     bodies
@@ -147,8 +147,8 @@ pub fn home_of(table: &[u32], n: u32, bodies: &[u32; 512], v: u32) -> u32
 }
 
 // The body in which row r's operands are read.
-pub fn reads_of(table: &[u32], n: u32, bodies: &[u32; 512], r: u32) -> u32
-    requires { ⌜ Passing (now table) n × Bodies (now table) n (now bodies) × (r < n) ⌝ }
+pub fn reads_of(table: &[u32], bodies: &[u32; 512], r: u32) -> u32
+    requires { ⌜ Passing (now table) (size (now table)) × Bodies (now table) (size (now table)) (now bodies) × (r < size (now table)) ⌝ }
     ensures { λ x. ⌜ x ≡ reads (now (table .entry)) r ⌝ }
 {
     let kind = kind_at(table, r);
@@ -159,8 +159,8 @@ pub fn reads_of(table: &[u32], n: u32, bodies: &[u32; 512], r: u32) -> u32
 }
 
 // The number of row v's wire at home, from the first output of each row.
-pub fn home_wire(table: &[u32], n: u32, pairs: &[u32; 512], wires: &[u32; 512], v: u32) -> u32
-    requires { ⌜ Passing (now table) n × Pairs (now table) (now pairs) × Low (now wires) × (v < n) × (kindOf (now table) v ≤ 6) ⌝ }
+pub fn home_wire(table: &[u32], pairs: &[u32; 512], wires: &[u32; 512], v: u32) -> u32
+    requires { ⌜ Passing (now table) (size (now table)) × Pairs (now table) (now pairs) × Low (now wires) × (v < size (now table)) × (kindOf (now table) v ≤ 6) ⌝ }
     ensures { λ w. ⌜ w ≡ homeFrom (now (table .entry)) (now (wires .entry)) v ⌝ }
 {
     let kind = kind_at(table, v);
@@ -223,8 +223,8 @@ pub fn count_results(table: &[u32], n: u32) -> u32
 }
 
 // How many nodes row r has.
-fn nodes_of(table: &[u32], n: u32, counts: &[u32; 512], r: u32) -> u32
-    requires { ⌜ Passing (now table) n × Counted (now table) (now counts) × (r < n) ⌝ }
+fn nodes_of(table: &[u32], counts: &[u32; 512], r: u32) -> u32
+    requires { ⌜ Passing (now table) (size (now table)) × Counted (now table) (now counts) × (r < size (now table)) ⌝ }
     ensures { λ x. ⌜ (nodeBase (now (table .entry)) (r + 1) ≡ nodeBase (now (table .entry)) r + x) × (x ≤ 2000) ⌝ }
 {
     let kind = kind_at(table, r);
@@ -244,8 +244,8 @@ fn nodes_of(table: &[u32], n: u32, counts: &[u32; 512], r: u32) -> u32
 }
 
 // How many outputs the nodes of row r have.
-fn wires_of(table: &[u32], n: u32, counts: &[u32; 512], r: u32) -> u32
-    requires { ⌜ Passing (now table) n × Counted (now table) (now counts) × (r < n) ⌝ }
+fn wires_of(table: &[u32], counts: &[u32; 512], r: u32) -> u32
+    requires { ⌜ Passing (now table) (size (now table)) × Counted (now table) (now counts) × (r < size (now table)) ⌝ }
     ensures { λ x. ⌜ (wireBase (now (table .entry)) (r + 1) ≡ wireBase (now (table .entry)) r + x) × (x ≤ 2000) ⌝ }
 {
     let kind = kind_at(table, r);
@@ -288,8 +288,8 @@ pub fn note_bases(
     while r < n {
         nodes[r as usize] = node;
         wires[r as usize] = wire;
-        node += nodes_of(table, n, counts, r);
-        wire += wires_of(table, n, counts, r);
+        node += nodes_of(table, counts, r);
+        wire += wires_of(table, counts, r);
         r += 1;
     }
     Plain {
@@ -299,8 +299,8 @@ pub fn note_bases(
 }
 
 // Links row r's operands, each behind the last one that names the same value.
-fn note_row_uses(table: &[u32], n: u32, heads: &mut [u32; 512], links: &mut [u32; 1536], r: u32)
-    requires { ⌜ Passing (now table) n × (r < n) × Uses (now table) (3 * r) (now heads) (now links) ⌝ }
+fn note_row_uses(table: &[u32], heads: &mut [u32; 512], links: &mut [u32; 1536], r: u32)
+    requires { ⌜ Passing (now table) (size (now table)) × (r < size (now table)) × Uses (now table) (3 * r) (now heads) (now links) ⌝ }
     ensures { λ u. ⌜ Uses (now (table .entry)) (3 * (r + 1)) (now (heads .exit)) (now (links .exit)) ⌝ }
 {
     let m = operand_count(kind_at(table, r));
@@ -320,14 +320,14 @@ pub fn note_uses(table: &[u32], n: u32, heads: &mut [u32; 512], links: &mut [u32
 {
     let mut r: u32 = 0;
     while r < n {
-        note_row_uses(table, n, heads, links, r);
+        note_row_uses(table, heads, links, r);
         r += 1;
     }
 }
 
 // The ARG that NEXT r serves: the one behind that of the NEXT before it, or the first of the loop.
-fn served_by(table: &[u32], n: u32, bodies: &[u32; 512], pairs: &[u32; 512], r: u32) -> u32
-    requires { ⌜ Passing (now table) n × Bodies (now table) n (now bodies) × PairsBefore (now table) r (now pairs) × (r < n) × (kindOf (now table) r ≡ 6) ⌝ }
+fn served_by(table: &[u32], bodies: &[u32; 512], pairs: &[u32; 512], r: u32) -> u32
+    requires { ⌜ Passing (now table) (size (now table)) × Bodies (now table) (size (now table)) (now bodies) × PairsBefore (now table) r (now pairs) × (r < size (now table)) × (kindOf (now table) r ≡ 6) ⌝ }
     ensures { λ a. ⌜ a ≡ argOf (now (table .entry)) r ⌝ }
 {
     let before = r - 1;
@@ -338,12 +338,12 @@ fn served_by(table: &[u32], n: u32, bodies: &[u32; 512], pairs: &[u32; 512], r: 
 }
 
 // Pairs row r with its ARG where it is a NEXT.
-fn pair_row(table: &[u32], n: u32, bodies: &[u32; 512], pairs: &mut [u32; 512], r: u32)
-    requires { ⌜ Passing (now table) n × Bodies (now table) n (now bodies) × PairsBefore (now table) r (now pairs) × (r < n) ⌝ }
+fn pair_row(table: &[u32], bodies: &[u32; 512], pairs: &mut [u32; 512], r: u32)
+    requires { ⌜ Passing (now table) (size (now table)) × Bodies (now table) (size (now table)) (now bodies) × PairsBefore (now table) r (now pairs) × (r < size (now table)) ⌝ }
     ensures { λ u. ⌜ PairsBefore (now (table .entry)) (r + 1) (now (pairs .exit)) ⌝ }
 {
     if kind_at(table, r) == NEXT {
-        let a = served_by(table, n, bodies, pairs, r);
+        let a = served_by(table, bodies, pairs, r);
         pairs[r as usize] = a;
         pairs[a as usize] = r;
     }
@@ -357,7 +357,7 @@ pub fn note_pairs(table: &[u32], n: u32, bodies: &[u32; 512]) -> [u32; 512]
     let mut pairs = [0u32; 512];
     let mut r: u32 = 0;
     while r < n {
-        pair_row(table, n, bodies, &mut pairs, r);
+        pair_row(table, bodies, &mut pairs, r);
         r += 1;
     }
     pairs

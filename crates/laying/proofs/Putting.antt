@@ -9,11 +9,12 @@ use native.Mathlib.Decide.{ℕ-discrete}
 use lib.ListN.{length, getD, set, getElem?, length-set}
 use lib.Seq.{sets, length-sets, getD-set-same, getD-set-other}
 use Rattle.step.specs.Kinds.{Kind}
-use Rattle.graph.specs.Graph.{Node}
+use Rattle.graph.specs.Graph.{Node, absent}
 use Rattle.lowered.specs.Roles.{Role}
 use Rattle.lowered.specs.Lower.{roles, kindNumber, nodeWords}
 use Rattle.written.specs.Plain.{plainNode, RowIs, RightRow}
 use Rattle.written.specs.Places.{node, right-by}
+use Rattle.laying.specs.Rows.{loopRows, argRows}
 
 one-put : (l m n : List ℕ) (p q w : ℕ) → l ≡ m → n ≡ set l q w → q ≡ p → n ≡ set m p w
 one-put l m n p q w e d h = d ∙ ap₂ {C = List ℕ} (λ (x : List ℕ) (y : ℕ). set x y w) e h
@@ -116,3 +117,20 @@ laid t rows new i j n k c c′ s s′ a a′ b b′ d d′ f f′ long l e at h 
 
 pub two-rows : (rows half new : List ℕ) (p q : ℕ) (ws us : List ℕ) → half ≡ sets rows p ws → new ≡ sets half q us → new ≡ sets (sets rows p ws) q us
 two-rows rows half new p q ws us e d = d ∙ ap (λ (x : List ℕ). sets x q us) e
+
+-- the rows of a FOR and of an ARG put down one after the other, by the numbers that their words were read from
+pub three-loop-rows : (rows one two new : List ℕ) (i w update condition a b d i′ w′ update′ condition′ a′ b′ d′ : ℕ)
+    → i ≡ i′ → w ≡ w′ → update ≡ update′ → condition ≡ condition′ → a ≡ a′ → b ≡ b′ → d ≡ d′
+    → one ≡ sets rows (7 * i) (0 ∷ (5 * update + condition) ∷ 0 ∷ a ∷ b ∷ d ∷ w ∷ [])
+    → two ≡ sets one (7 * (i + 1)) (1 ∷ 0 ∷ 0 ∷ w ∷ (w + 1) ∷ absent ∷ (w + 2) ∷ [])
+    → new ≡ sets two (7 * (i + 2)) (7 ∷ (3 + condition) ∷ 0 ∷ a ∷ d ∷ absent ∷ (w + 4) ∷ [])
+    → new ≡ loopRows rows i′ w′ update′ condition′ a′ b′ d′
+three-loop-rows rows one two new i w update condition a b d i′ w′ update′ condition′ a′ b′ d′ ei ew eu ec ea eb ed e₁ e₂ e₃ =
+    rw (e₃, e₂, e₁, ei, ew, eu, ec, ea, eb, ed)
+
+pub two-arg-rows : (rows one new wires at : List ℕ) (i w body raw next a b i′ w′ body′ next′ a′ : ℕ)
+    → i ≡ i′ → w ≡ w′ → body ≡ body′ → raw ≡ getD wires body 0 → next ≡ next′ → a ≡ a′ → b ≡ getD at (3 * next) 0
+    → one ≡ sets rows (7 * i) (2 ∷ 0 ∷ 0 ∷ (raw + 1) ∷ a ∷ b ∷ w ∷ [])
+    → new ≡ sets one (7 * (i + 1)) (4 ∷ 0 ∷ 0 ∷ (raw + 1) ∷ w ∷ absent ∷ (w + 1) ∷ [])
+    → new ≡ argRows rows i′ w′ (getD wires body′ 0 + 1) a′ (getD at (3 * next′) 0)
+two-arg-rows rows one new wires at i w body raw next a b i′ w′ body′ next′ a′ ei ew eB er en ea eb e₁ e₂ = rw (e₂, e₁, er, eb, ei, ew, eB, en, ea)

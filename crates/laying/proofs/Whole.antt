@@ -12,6 +12,7 @@ use Rattle.laid.specs.Bases.{copyPlace, node-base-for}
 use Rattle.written.specs.Plain.{Laid}
 use Rattle.written.specs.Places.{RowsRight, all-right}
 use Rattle.carrying.specs.Kept.{Passing, Bases, Low}
+use Rattle.carrying.specs.Sized.{sized, bodies-sized}
 use Rattle.laying.specs.Entering.{Room}
 use Rattle.laying.specs.Using.{Counting, Values}
 use Rattle.laying.specs.Rows.{Noted, Operands, Known, RowsLaid}
@@ -71,11 +72,11 @@ module _ (t : List ℕ) (n : ℕ) (bodies pairs heads links : List ℕ) (N : Not
       let l = u .0 in
       W .right B .value r j u (omega arith)
 
-  pub known : (counts lasts rows at : List ℕ) → Values t n nodes wires counts lasts rows at → Low wires → plainNodes t ≤ 4096 → Known t n bodies pairs nodes wires at
+  pub known : (counts lasts rows at : List ℕ) → Values t n nodes wires counts lasts rows at → Low wires → plainNodes t ≤ 4096 → Known t bodies pairs nodes wires at
   known counts lasts rows at W low fit =
       record {
-        passing = N .passing;
-        bodies-noted = N .bodies-noted;
+        passing = sized t n (N .passing);
+        bodies-noted = bodies-sized t n (N .passing) bodies (N .bodies-noted);
         pairs-noted = N .pairs-noted;
         bases = B;
         low = low;

@@ -4,17 +4,17 @@ ghost use mathlib.Core.List.{[], _∷_};
 ghost use Prim.Native.Nat.{_+_, _*_, _<_, _≤_};
 ghost use lib.ListN.{length, getD, set};
 ghost use lib.Seq.{sets};
-ghost use Rattle.table.specs.Rows.{kindOf};
+ghost use Rattle.table.specs.Rows.{word, size};
 ghost use Rattle.table.specs.Scan.{home};
 ghost use Rattle.lowered.specs.Lower.{plainNodes, plainWires, startTotal, resultTotal};
 ghost use Rattle.written.specs.Plain.{Laid, Outs};
 ghost use Rattle.carrying.specs.Kept.{Passing, Bodies, Pairs, Uses, Counted, Bases, Low, OnTheWay};
 ghost use Rattle.laying.specs.Entering.{Room, copyRows, Entering, Entered, Resolved, Takes, Carries};
 ghost use Rattle.laying.specs.Using.{Counting, UseAt, UseResolved, UsesResolved, Values};
-ghost use Rattle.laying.specs.Rows.{Noted, Operands, Known, RowLaid, RowsLaid, OutsLaid};
+ghost use Rattle.laying.specs.Rows.{Noted, Operands, opRow, pickRow, loopRows, argRows, Known, RowLaid, RowsLaid, OutsLaid};
 
-// Stands for an absent input.
-const X: u32 = 4294967295;
+// How many nodes the rows have room for.
+const ROOM: u32 = 4096;
 
 // The kinds of nodes.
 const STREAM: u32 = 0;
@@ -91,7 +91,7 @@ fn lay_copy(rows: &mut [u32; 28672], i: u32, w: u32, place: u32, sort: u32, oute
         sort,
         w + 4,
         outer,
-        X,
+        graph::ABSENT,
         leg,
     );
     put_row(
@@ -102,7 +102,7 @@ fn lay_copy(rows: &mut [u32; 28672], i: u32, w: u32, place: u32, sort: u32, oute
         sort,
         w + 3,
         leg,
-        X,
+        graph::ABSENT,
         w + 7 + 3 * place,
     );
 }
@@ -110,7 +110,6 @@ fn lay_copy(rows: &mut [u32; 28672], i: u32, w: u32, place: u32, sort: u32, oute
 // The wire of value v in loop b, where it comes to the body around on wire `outer`. The copy made for b is laid down where it is not there yet.
 fn enter(
     table: &[u32],
-    n: u32,
     nodes: &[u32; 512],
     wires: &[u32; 512],
     counts: &mut [u32; 512],
@@ -120,7 +119,7 @@ fn enter(
     b: u32,
     outer: u32,
 ) -> u32
-    requires { ⌜ Passing (now table) n × Takes (now table) v b × Room (now table) (now nodes) (now wires) × Entering (now table) v (now counts) (now lasts) × (length (now rows) ≡ 28672) ⌝ }
+    requires { ⌜ Passing (now table) (size (now table)) × Takes (now table) v b × Room (now table) (now nodes) (now wires) × Entering (now table) v (now counts) (now lasts) × (length (now rows) ≡ 28672) ⌝ }
     ensures { λ w. ⌜ Entered (now (table .entry)) v b (now (nodes .entry)) (now (wires .entry)) outer (now (lasts .entry)) (now (rows .entry)) (now (counts .exit)) (now (lasts .exit)) (now (rows .exit)) w ⌝ }
 {
     let w = carrying::noted_at(wires, b);
@@ -144,7 +143,6 @@ fn enter(
 // The wire on which value v comes to body b: at home its own; else that of the copy made for loop b, its own source found one loop further out.
 fn resolve(
     table: &[u32],
-    n: u32,
     bodies: &[u32; 512],
     nodes: &[u32; 512],
     wires: &[u32; 512],
@@ -156,7 +154,7 @@ fn resolve(
     own: u32,
     b: u32,
 ) -> u32
-    requires { ⌜ Passing (now table) n × Bodies (now table) n (now bodies) × (v < n) × (h ≡ home (now table) v) × OnTheWay (now table) v b × Carries (now table) v b × Room (now table) (now nodes) (now wires) × Entering (now table) v (now counts) (now lasts) × (length (now rows) ≡ 28672) ⌝ }
+    requires { ⌜ Passing (now table) (size (now table)) × Bodies (now table) (size (now table)) (now bodies) × (v < size (now table)) × (h ≡ home (now table) v) × OnTheWay (now table) v b × Carries (now table) v b × Room (now table) (now nodes) (now wires) × Entering (now table) v (now counts) (now lasts) × (length (now rows) ≡ 28672) ⌝ }
     ensures { λ w. ⌜ Resolved (now (table .entry)) v b (now (nodes .entry)) (now (wires .entry)) own (now (lasts .entry)) (now (rows .entry)) (now (counts .exit)) (now (lasts .exit)) (now (rows .exit)) w ⌝ }
 {
     if b == h {
@@ -165,7 +163,6 @@ fn resolve(
     let around = carrying::noted_at(bodies, b);
     let outer = resolve(
         table,
-        n,
         bodies,
         nodes,
         wires,
@@ -177,7 +174,7 @@ fn resolve(
         own,
         around,
     );
-    enter(table, n, nodes, wires, counts, lasts, rows, v, b, outer)
+    enter(table, nodes, wires, counts, lasts, rows, v, b, outer)
 }
 
 // The wire of the operand at place p, which names value v.
@@ -199,11 +196,10 @@ fn resolve_use(
     ensures { λ u. ⌜ UseResolved (now (table .entry)) v p (now (nodes .entry)) (now (wires .entry)) (now (lasts .entry)) (now (rows .entry)) (now (at .entry)) (now (counts .exit)) (now (lasts .exit)) (now (rows .exit)) (now (at .exit)) ⌝ }
 {
     let h = carrying::home_of(table, n, bodies, v);
-    let own = carrying::home_wire(table, n, pairs, wires, v);
-    let b = carrying::reads_of(table, n, bodies, p / 3);
+    let own = carrying::home_wire(table, pairs, wires, v);
+    let b = carrying::reads_of(table, bodies, p / 3);
     let w = resolve(
         table,
-        n,
         bodies,
         nodes,
         wires,
@@ -308,17 +304,14 @@ fn wire_of(at: &[u32; 1536], p: u32) -> u32
 // OP: one node.
 fn lay_op(
     table: &[u32],
-    n: u32,
-    bodies: &[u32; 512],
-    pairs: &[u32; 512],
     nodes: &[u32; 512],
     wires: &[u32; 512],
     at: &[u32; 1536],
     rows: &mut [u32; 28672],
     r: u32,
 )
-    requires { ⌜ Known (now table) n (now bodies) (now pairs) (now nodes) (now wires) (now at) × (r < n) × (kindOf (now table) r ≡ 2) × (length (now rows) ≡ 28672) ⌝ }
-    ensures { λ u. ⌜ RowLaid (now (table .entry)) r (now (rows .entry)) (now (rows .exit)) ⌝ }
+    requires { ⌜ (r < size (now table)) × (r < 512) × (getD (now nodes) r 0 < 4096) ⌝ }
+    ensures { λ u. ⌜ now (rows .exit) ≡ opRow (now (rows .entry)) (getD (now (nodes .entry)) r 0) (getD (now (wires .entry)) r 0) (word (now (table .entry)) r 1) (getD (now (at .entry)) (3 * r) 0) (getD (now (at .entry)) (3 * r + 1) 0) ⌝ }
 {
     let i = carrying::noted_at(nodes, r);
     let w = carrying::noted_at(wires, r);
@@ -331,25 +324,21 @@ fn lay_op(
         0,
         wire_of(at, 3 * r),
         wire_of(at, 3 * r + 1),
-        X,
+        graph::ABSENT,
         w,
     );
 }
 
 // PICK: one node.
 fn lay_pick(
-    table: &[u32],
-    n: u32,
-    bodies: &[u32; 512],
-    pairs: &[u32; 512],
     nodes: &[u32; 512],
     wires: &[u32; 512],
     at: &[u32; 1536],
     rows: &mut [u32; 28672],
     r: u32,
 )
-    requires { ⌜ Known (now table) n (now bodies) (now pairs) (now nodes) (now wires) (now at) × (r < n) × (kindOf (now table) r ≡ 3) × (length (now rows) ≡ 28672) ⌝ }
-    ensures { λ u. ⌜ RowLaid (now (table .entry)) r (now (rows .entry)) (now (rows .exit)) ⌝ }
+    requires { ⌜ (r < 512) × (getD (now nodes) r 0 < 4096) ⌝ }
+    ensures { λ u. ⌜ now (rows .exit) ≡ pickRow (now (rows .entry)) (getD (now (nodes .entry)) r 0) (getD (now (wires .entry)) r 0) (getD (now (at .entry)) (3 * r) 0) (getD (now (at .entry)) (3 * r + 1) 0) (getD (now (at .entry)) (3 * r + 2) 0) ⌝ }
 {
     let i = carrying::noted_at(nodes, r);
     let w = carrying::noted_at(wires, r);
@@ -362,17 +351,14 @@ fn lay_pick(
 // FOR: STREAM(start, step, bound), GATE(raw index, raw condition), and a guard, an OP comparing start with bound.
 fn lay_loop(
     table: &[u32],
-    n: u32,
-    bodies: &[u32; 512],
-    pairs: &[u32; 512],
     nodes: &[u32; 512],
     wires: &[u32; 512],
     at: &[u32; 1536],
     rows: &mut [u32; 28672],
     r: u32,
 )
-    requires { ⌜ Known (now table) n (now bodies) (now pairs) (now nodes) (now wires) (now at) × (r < n) × (kindOf (now table) r ≡ 4) × (length (now rows) ≡ 28672) ⌝ }
-    ensures { λ u. ⌜ RowLaid (now (table .entry)) r (now (rows .entry)) (now (rows .exit)) ⌝ }
+    requires { ⌜ (r < size (now table)) × (r < 512) × (getD (now nodes) r 0 + 2 < 4096) × Low (now wires) × (word (now table) r 4 ≤ 5) × (word (now table) r 5 ≤ 4) ⌝ }
+    ensures { λ u. ⌜ now (rows .exit) ≡ loopRows (now (rows .entry)) (getD (now (nodes .entry)) r 0) (getD (now (wires .entry)) r 0) (word (now (table .entry)) r 4) (word (now (table .entry)) r 5) (getD (now (at .entry)) (3 * r) 0) (getD (now (at .entry)) (3 * r + 1) 0) (getD (now (at .entry)) (3 * r + 2) 0) ⌝ }
 {
     let i = carrying::noted_at(nodes, r);
     let w = carrying::noted_at(wires, r);
@@ -382,14 +368,22 @@ fn lay_loop(
     let b = wire_of(at, 3 * r + 1);
     let c = wire_of(at, 3 * r + 2);
     put_row(rows, i, STREAM, 5 * update + condition, 0, a, b, c, w);
-    put_row(rows, i + 1, GATE, 0, 0, w, w + 1, X, w + 2);
-    put_row(rows, i + 2, OP, CONDITIONS + condition, 0, a, c, X, w + 4);
+    put_row(rows, i + 1, GATE, 0, 0, w, w + 1, graph::ABSENT, w + 2);
+    put_row(
+        rows,
+        i + 2,
+        OP,
+        CONDITIONS + condition,
+        0,
+        a,
+        c,
+        graph::ABSENT,
+        w + 4,
+    );
 }
 
 // ARG: CARRY(raw condition, initial, next), SPLIT(raw condition, carry).
 fn lay_arg(
-    table: &[u32],
-    n: u32,
     bodies: &[u32; 512],
     pairs: &[u32; 512],
     nodes: &[u32; 512],
@@ -398,8 +392,8 @@ fn lay_arg(
     rows: &mut [u32; 28672],
     r: u32,
 )
-    requires { ⌜ Known (now table) n (now bodies) (now pairs) (now nodes) (now wires) (now at) × (r < n) × (kindOf (now table) r ≡ 5) × (length (now rows) ≡ 28672) ⌝ }
-    ensures { λ u. ⌜ RowLaid (now (table .entry)) r (now (rows .entry)) (now (rows .exit)) ⌝ }
+    requires { ⌜ (r < 512) × (getD (now nodes) r 0 + 1 < 4096) × Low (now wires) × (getD (now bodies) r 0 < 512) × (getD (now pairs) r 0 < 512) ⌝ }
+    ensures { λ u. ⌜ now (rows .exit) ≡ argRows (now (rows .entry)) (getD (now (nodes .entry)) r 0) (getD (now (wires .entry)) r 0) (getD (now (wires .entry)) (getD (now (bodies .entry)) r 0) 0 + 1) (getD (now (at .entry)) (3 * r) 0) (getD (now (at .entry)) (3 * getD (now (pairs .entry)) r 0) 0) ⌝ }
 {
     let i = carrying::noted_at(nodes, r);
     let w = carrying::noted_at(wires, r);
@@ -416,13 +410,12 @@ fn lay_arg(
         wire_of(at, 3 * next),
         w,
     );
-    put_row(rows, i + 1, SPLIT, 0, 0, raw, w, X, w + 1);
+    put_row(rows, i + 1, SPLIT, 0, 0, raw, w, graph::ABSENT, w + 1);
 }
 
 // The nodes of row r, but for the copies of a loop.
 fn lay_row(
     table: &[u32],
-    n: u32,
     bodies: &[u32; 512],
     pairs: &[u32; 512],
     nodes: &[u32; 512],
@@ -431,24 +424,24 @@ fn lay_row(
     rows: &mut [u32; 28672],
     r: u32,
 )
-    requires { ⌜ Known (now table) n (now bodies) (now pairs) (now nodes) (now wires) (now at) × (r < n) × (length (now rows) ≡ 28672) ⌝ }
+    requires { ⌜ Known (now table) (now bodies) (now pairs) (now nodes) (now wires) (now at) × (r < size (now table)) × (length (now rows) ≡ 28672) ⌝ }
     ensures { λ u. ⌜ RowLaid (now (table .entry)) r (now (rows .entry)) (now (rows .exit)) ⌝ }
 {
     let kind = carrying::kind_at(table, r);
     if kind == ROW_OP {
-        lay_op(table, n, bodies, pairs, nodes, wires, at, rows, r);
+        lay_op(table, nodes, wires, at, rows, r);
         return;
     }
     if kind == ROW_PICK {
-        lay_pick(table, n, bodies, pairs, nodes, wires, at, rows, r);
+        lay_pick(nodes, wires, at, rows, r);
         return;
     }
     if kind == ROW_FOR {
-        lay_loop(table, n, bodies, pairs, nodes, wires, at, rows, r);
+        lay_loop(table, nodes, wires, at, rows, r);
         return;
     }
     if kind == ROW_ARG {
-        lay_arg(table, n, bodies, pairs, nodes, wires, at, rows, r);
+        lay_arg(bodies, pairs, nodes, wires, at, rows, r);
     }
 }
 
@@ -463,19 +456,19 @@ fn lay_rows(
     at: &[u32; 1536],
     rows: &mut [u32; 28672],
 )
-    requires { ⌜ Known (now table) n (now bodies) (now pairs) (now nodes) (now wires) (now at) × (length (now rows) ≡ 28672) ⌝ }
+    requires { ⌜ (n ≡ size (now table)) × Known (now table) (now bodies) (now pairs) (now nodes) (now wires) (now at) × (length (now rows) ≡ 28672) ⌝ }
     ensures { λ u. ⌜ RowsLaid (now (table .entry)) n (now (rows .entry)) (now (rows .exit)) ⌝ }
 {
     let mut r: u32 = 0;
     while r < n {
-        lay_row(table, n, bodies, pairs, nodes, wires, at, rows, r);
+        lay_row(table, bodies, pairs, nodes, wires, at, rows, r);
         r += 1;
     }
 }
 
 // The result of row r, where it is an OUT row: the k-th. How many there are then.
-fn lay_out(table: &[u32], n: u32, at: &[u32; 1536], outs: &mut [u32; 512], r: u32, k: u32) -> u32
-    requires { ⌜ Passing (now table) n × Operands (now table) (now at) × (r < n) × OutsLaid (now table) r k (now outs) ⌝ }
+fn lay_out(table: &[u32], at: &[u32; 1536], outs: &mut [u32; 512], r: u32, k: u32) -> u32
+    requires { ⌜ Passing (now table) (size (now table)) × Operands (now table) (now at) × (r < size (now table)) × OutsLaid (now table) r k (now outs) ⌝ }
     ensures { λ m. ⌜ OutsLaid (now (table .entry)) (r + 1) m (now (outs .exit)) ⌝ }
 {
     if carrying::kind_at(table, r) == ROW_OUT {
@@ -493,7 +486,7 @@ fn lay_outs(table: &[u32], n: u32, at: &[u32; 1536], outs: &mut [u32; 512])
     let mut k: u32 = 0;
     let mut r: u32 = 0;
     while r < n {
-        k = lay_out(table, n, at, outs, r, k);
+        k = lay_out(table, at, outs, r, k);
         r += 1;
     }
 }
@@ -594,12 +587,12 @@ pub fn lay(table: &[u32], n: u32, rows: &mut [u32; 28672], outs: &mut [u32; 512]
     let mut nodes = [0u32; 512];
     let mut wires = [0u32; 512];
     let plain = carrying::note_bases(table, n, starts, &counts, &mut nodes, &mut wires);
-    if 4096 < plain.nodes {
+    if ROOM < plain.nodes {
         return Counts {
             nodes: plain.nodes,
             wires: plain.wires,
-            starts: starts,
-            results: results,
+            starts,
+            results,
         };
     }
     lay_all(
@@ -617,7 +610,7 @@ pub fn lay(table: &[u32], n: u32, rows: &mut [u32; 28672], outs: &mut [u32; 512]
     Counts {
         nodes: plain.nodes,
         wires: plain.wires,
-        starts: starts,
-        results: results,
+        starts,
+        results,
     }
 }

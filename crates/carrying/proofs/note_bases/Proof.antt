@@ -3,6 +3,7 @@ use Prim.Native.Nat.{_-_, _≤_}
 use native.Mathlib.Omega.{arith}
 use borrow.Author.Needs.{needs}
 use Rattle.carrying.proofs.Counting.{BasesBefore, no-bases, one-base, all-bases}
+use Rattle.carrying.specs.Sized.{sized, row-sized}
 use Rattle.carrying.proofs.note_bases.Statement.{statement}
 use Rattle.carrying.proofs.note_bases.Tie as tie
 
@@ -34,13 +35,13 @@ element-write-wires : tie.Need-element-write-wires Inv-loop μ-loop
 element-write-wires c = omega (arith, c .loop-test .taken, c .before .before .before .pre .0 .few, c .before .loop .inv .1 .wires-long)
 
 nodes-of-requires : tie.Need-nodes-of-requires Inv-loop μ-loop
-nodes-of-requires c κs = (c .before .before .before .pre .0, c .before .before .before .pre .2, c .loop-test .taken)
+nodes-of-requires c κs = let P = c .before .before .before .pre in (sized _ _ (P .0), P .2, row-sized _ _ (P .0) _ (c .loop-test .taken))
 
 add-node : tie.Need-add-node Inv-loop μ-loop
 add-node c = omega (arith, c .nodes-of .ensures .1, c .before .before .loop .inv .1 .node-small, c .before .before .loop .inv .0, c .before .before .before .before .pre .0 .few)
 
 wires-of-requires : tie.Need-wires-of-requires Inv-loop μ-loop
-wires-of-requires c κs = (c .before .before .before .before .pre .0, c .before .before .before .before .pre .2, c .before .loop-test .taken)
+wires-of-requires c κs = let P = c .before .before .before .before .pre in (sized _ _ (P .0), P .2, row-sized _ _ (P .0) _ (c .before .loop-test .taken))
 
 add-wire : tie.Need-add-wire Inv-loop μ-loop
 add-wire c = omega (arith, c .wires-of .ensures .1, c .before .before .before .loop .inv .1 .wire-small, c .before .before .before .loop .inv .0, c .before .before .before .before .before .pre .0 .few)

@@ -8,6 +8,7 @@ use Rattle.laid.specs.Scanned.{body-first}
 use Rattle.table.specs.Scan.{bodyOf}
 use Rattle.carrying.proofs.Scanning.{none-noted, one-noted, fewer-noted}
 use Rattle.carrying.specs.Kept.{Bodies}
+use Rattle.carrying.specs.Sized.{sized, row-sized}
 use Rattle.carrying.proofs.note_bodies.Statement.{statement}
 use Rattle.carrying.proofs.note_bodies.Tie as tie
 
@@ -30,7 +31,7 @@ array-write-bodies : tie.Need-array-write-bodies Inv-loop μ-loop
 array-write-bodies c = omega (arith, c .loop-test .taken, c .before .before .before .pre .few, c .before .loop .inv .1 .long)
 
 body-after-requires : tie.Need-body-after-requires Inv-loop μ-loop
-body-after-requires c κs = (c .before .before .before .before .pre, fewer-noted _ _ (c .before .before .before .before .pre) _ _ _ (omega arith) (one-noted _ _ (c .before .before .before .before .pre) _ _ _ (c .before .before .loop .inv .1) (c .before .loop-test .taken) (c .before .before .loop .inv .2)), c .before .loop-test .taken, c .before .before .loop .inv .2)
+body-after-requires c κs = (sized _ _ (c .before .before .before .before .pre), fewer-noted _ _ (c .before .before .before .before .pre) _ _ _ (omega arith) (one-noted _ _ (c .before .before .before .before .pre) _ _ _ (c .before .before .loop .inv .1) (c .before .loop-test .taken) (c .before .before .loop .inv .2)), row-sized _ _ (c .before .before .before .before .pre) _ (c .before .loop-test .taken), c .before .before .loop .inv .2)
 
 add-r : tie.Need-add-r Inv-loop μ-loop
 add-r c = search needs

@@ -4,6 +4,7 @@ use native.Mathlib.Omega.{arith}
 use lib.ListN.{length-replicate}
 use Rattle.carrying.specs.Kept.{PairsBefore}
 use Rattle.carrying.proofs.Pairing.{none-paired, all-paired}
+use Rattle.carrying.specs.Sized.{sized, row-sized, bodies-sized}
 use Rattle.carrying.proofs.note_pairs.Statement.{statement}
 use Rattle.carrying.proofs.note_pairs.Tie as tie
 
@@ -17,7 +18,7 @@ loop-holds : tie.Need-loop-holds Inv-loop μ-loop
 loop-holds c = (omega arith, none-paired _ _ (c .before .pre .0) _ (length-replicate {A = ℕ} 512 0))
 
 pair-row-requires : tie.Need-pair-row-requires Inv-loop μ-loop
-pair-row-requires c κs = (c .before .before .before .before .pre .0, c .before .before .before .before .pre .1, c .before .before .loop .inv .1, c .before .loop-test .taken)
+pair-row-requires c κs = let P = c .before .before .before .before .pre in (sized _ _ (P .0), bodies-sized _ _ (P .0) _ (P .1), c .before .before .loop .inv .1, row-sized _ _ (P .0) _ (c .before .loop-test .taken))
 
 add-r : tie.Need-add-r Inv-loop μ-loop
 add-r c = omega (arith, c .before .before .loop-test .taken, c .before .before .before .before .before .pre .0 .few)

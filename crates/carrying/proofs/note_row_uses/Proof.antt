@@ -8,10 +8,10 @@ use Rattle.carrying.proofs.note_row_uses.Statement.{statement}
 use Rattle.carrying.proofs.note_row_uses.Tie as tie
 
 abbrev Inv-loop : tie.InvT-loop
-Inv-loop table n heads₀ links₀ r m j₀ heads links j = (j ≤ m) × Uses table (3 * r + j) heads links
+Inv-loop table heads₀ links₀ r m j₀ heads links j = (j ≤ m) × Uses table (3 * r + j) heads links
 
 abbrev μ-loop : tie.MeasureT-loop
-μ-loop table n heads₀ links₀ r m j₀ heads links j = m - j
+μ-loop table heads₀ links₀ r m j₀ heads links j = m - j
 
 kind-at-requires : tie.Need-kind-at-requires Inv-loop μ-loop
 kind-at-requires c κs = search needs

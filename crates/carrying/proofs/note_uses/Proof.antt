@@ -3,6 +3,7 @@ use Prim.Native.Nat.{_*_, _-_, _≤_}
 use native.Mathlib.Omega.{arith}
 use Rattle.carrying.specs.Kept.{Uses}
 use Rattle.carrying.proofs.Linking.{no-uses, all-linked}
+use Rattle.carrying.specs.Sized.{sized, row-sized}
 use Rattle.carrying.proofs.note_uses.Statement.{statement}
 use Rattle.carrying.proofs.note_uses.Tie as tie
 
@@ -16,7 +17,7 @@ loop-holds : tie.Need-loop-holds Inv-loop μ-loop
 loop-holds c = (omega arith, no-uses _ _ (c .before .pre .0) _ _ (c .before .pre .1) (c .before .pre .2) (c .before .pre .3))
 
 note-row-uses-requires : tie.Need-note-row-uses-requires Inv-loop μ-loop
-note-row-uses-requires c κs = (c .before .before .before .before .before .pre .0, c .before .before .loop-test .taken, c .before .before .before .loop .inv .1)
+note-row-uses-requires c κs = let P = c .before .before .before .before .before .pre .0 in (sized _ _ P, row-sized _ _ P _ (c .before .before .loop-test .taken), c .before .before .before .loop .inv .1)
 
 add-r : tie.Need-add-r Inv-loop μ-loop
 add-r c = omega (arith, c .before .before .before .loop-test .taken, c .before .before .before .before .before .before .pre .0 .few)

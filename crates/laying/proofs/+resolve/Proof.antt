@@ -1,5 +1,6 @@
 -- `laying::resolve` meets its contract. It calls itself for the enclosing loop: the rank of the body falls, until home is reached. Assumes nothing.
 use native.Mathlib.Omega.{arith}
+use Rattle.table.specs.Rows.{size}
 use Rattle.carrying.specs.Way.{rank, below, noted, way-on, rank-below}
 use Rattle.laying.proofs.Copies.{at-home, takes, carries-on, resolved-on}
 use Prim.Native.Nat.{ℕ, _<_}
@@ -14,7 +15,7 @@ use Rattle.laying.proofs.+resolve.{statement}
 use Rattle.laying.proofs.+resolve.Tie.{close}
 
 abbrev μ-resolve : Measures 7 resolve-kinds.ps ℕ
-μ-resolve κs a = rank (a .1 .0) (a .1 .1 .1 .1 .1 .1 .1 .1 .1 .1 .1 .0)
+μ-resolve κs a = rank (size (a .0 .now)) (a .1 .1 .1 .1 .1 .1 .1 .1 .1 .1 .0)
 
 abbrev resolve-at : ℕ → In 7 resolve-kinds.ps
 resolve-at t = and 7 resolve-kinds.ps (is 7 resolve-kinds.ps μ-resolve t) resolve.Pre

@@ -11,7 +11,7 @@ resolve-values-requires c κs = let P = c .before .before .before .before .befor
 
 lay-rows-requires : tie.Need-lay-rows-requires
 lay-rows-requires c κs = let P = c .before .before .before .before .before .before .before .before .pre in
-    (known _ _ _ _ _ _ (P .0) _ _ (P .1) _ _ _ _ (c .before .before .resolve-values .ensures) (P .2) (P .3), c .before .before .resolve-values .ensures .long)
+    (P .0 .passing .rows, known _ _ _ _ _ _ (P .0) _ _ (P .1) _ _ _ _ (c .before .before .resolve-values .ensures) (P .2) (P .3), c .before .before .resolve-values .ensures .long)
 
 lay-outs-requires : tie.Need-lay-outs-requires
 lay-outs-requires c κs = let P = c .before .before .before .before .before .before .before .before .before .before .before .pre in (P .0 .passing, operands-known _ _ _ _ _ _ (P .0) _ _ (P .1) _ _ _ _ (c .before .before .before .before .before .resolve-values .ensures), P .5)

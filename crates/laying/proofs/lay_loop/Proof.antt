@@ -1,6 +1,6 @@
 -- `laying::lay_loop` meets its contract: three rows, STREAM, GATE and the guard. Assumes nothing.
 use native.Mathlib.Omega.{arith}
-use Rattle.laying.proofs.Nodes.{loop-fits, loop-words, loop-laid}
+use Rattle.laying.proofs.Putting.{three-loop-rows}
 use borrow.Author.Needs.{needs}
 use Rattle.laying.proofs.lay_loop.Statement.{statement}
 use Rattle.laying.proofs.lay_loop.Tie as tie
@@ -42,40 +42,51 @@ wire-of-requires-3 : tie.Need-wire-of-requires-3
 wire-of-requires-3 c κs = search needs
 
 mul-put-row : tie.Need-mul-put-row
-mul-put-row c = let P = c .before .before .before .before .before .before .before .before .before .pre in let z = loop-words _ _ _ _ _ _ _ (P .0) _ _ _ (P .1) (c .before .before .before .before .before .before .before .noted-at .ensures) (c .before .before .before .before .before .before .noted-at2 .ensures) _ _ (P .2) (c .before .before .before .before .before .word-at .ensures) (c .before .before .before .before .word-at2 .ensures) in let z0 = z .0 in let z1 = z .1 in omega arith
+mul-put-row c = search needs
 
 add-put-row : tie.Need-add-put-row
-add-put-row c = let P = c .before .before .before .before .before .before .before .before .before .pre in let z = loop-words _ _ _ _ _ _ _ (P .0) _ _ _ (P .1) (c .before .before .before .before .before .before .before .noted-at .ensures) (c .before .before .before .before .before .before .noted-at2 .ensures) _ _ (P .2) (c .before .before .before .before .before .word-at .ensures) (c .before .before .before .before .word-at2 .ensures) in let z0 = z .0 in let z1 = z .1 in omega arith
+add-put-row c = search needs
 
 put-row-requires : tie.Need-put-row-requires
-put-row-requires c κs = let P = c .before .before .before .before .before .before .before .before .before .pre in let f = loop-fits _ _ _ _ _ _ _ (P .0) _ _ _ (P .1) (c .before .before .before .before .before .before .before .noted-at .ensures) (c .before .before .before .before .before .before .noted-at2 .ensures) (P .2) in omega arith
+put-row-requires c κs = search needs
 
 add-put-row-2 : tie.Need-add-put-row-2
-add-put-row-2 c = let P = c .before .before .before .before .before .before .before .before .before .before .before .pre in let f = loop-fits _ _ _ _ _ _ _ (P .0) _ _ _ (P .1) (c .before .before .before .before .before .before .before .before .before .noted-at .ensures) (c .before .before .before .before .before .before .before .before .noted-at2 .ensures) (P .2) in omega arith
+add-put-row-2 c = search needs
 
 add-put-row-3 : tie.Need-add-put-row-3
-add-put-row-3 c = omega (arith, c .before .before .before .before .before .before .before .before .before .before .before .pre .0 .low (c .before .before .before .before .before .before .before .before .before .before .before .args .r), c .before .before .before .before .before .before .before .before .noted-at2 .ensures)
+add-put-row-3 c = omega (arith, c .before .before .before .before .before .before .before .before .before .before .before .pre .3 (c .before .before .before .before .before .before .before .before .before .before .before .args .r), c .before .before .before .before .before .before .before .before .noted-at2 .ensures)
 
 add-put-row-4 : tie.Need-add-put-row-4
-add-put-row-4 c = omega (arith, c .before .before .before .before .before .before .before .before .before .before .before .pre .0 .low (c .before .before .before .before .before .before .before .before .before .before .before .args .r), c .before .before .before .before .before .before .before .before .noted-at2 .ensures)
+add-put-row-4 c = omega (arith, c .before .before .before .before .before .before .before .before .before .before .before .pre .3 (c .before .before .before .before .before .before .before .before .before .before .before .args .r), c .before .before .before .before .before .before .before .before .noted-at2 .ensures)
 
 put-row-requires-2 : tie.Need-put-row-requires-2
-put-row-requires-2 c κs = let P = c .before .before .before .before .before .before .before .before .before .before .before .pre in let f = loop-fits _ _ _ _ _ _ _ (P .0) _ _ _ (P .1) (c .before .before .before .before .before .before .before .before .before .noted-at .ensures) (c .before .before .before .before .before .before .before .before .noted-at2 .ensures) (P .2) in omega arith
+put-row-requires-2 c κs = search needs
 
 add-put-row-5 : tie.Need-add-put-row-5
-add-put-row-5 c = let P = c .before .before .before .before .before .before .before .before .before .before .before .before .before .pre in let f = loop-fits _ _ _ _ _ _ _ (P .0) _ _ _ (P .1) (c .before .before .before .before .before .before .before .before .before .before .before .noted-at .ensures) (c .before .before .before .before .before .before .before .before .before .before .noted-at2 .ensures) (P .2) in omega arith
+add-put-row-5 c = search needs
 
 add-put-row-6 : tie.Need-add-put-row-6
-add-put-row-6 c = let P = c .before .before .before .before .before .before .before .before .before .before .before .before .before .pre in let z = loop-words _ _ _ _ _ _ _ (P .0) _ _ _ (P .1) (c .before .before .before .before .before .before .before .before .before .before .before .noted-at .ensures) (c .before .before .before .before .before .before .before .before .before .before .noted-at2 .ensures) _ _ (P .2) (c .before .before .before .before .before .before .before .before .before .word-at .ensures) (c .before .before .before .before .before .before .before .before .word-at2 .ensures) in let z0 = z .0 in let z1 = z .1 in omega arith
+add-put-row-6 c = search needs
 
 add-put-row-7 : tie.Need-add-put-row-7
-add-put-row-7 c = omega (arith, c .before .before .before .before .before .before .before .before .before .before .before .before .before .pre .0 .low (c .before .before .before .before .before .before .before .before .before .before .before .before .before .args .r), c .before .before .before .before .before .before .before .before .before .before .noted-at2 .ensures)
+add-put-row-7 c = omega (arith, c .before .before .before .before .before .before .before .before .before .before .before .before .before .pre .3 (c .before .before .before .before .before .before .before .before .before .before .before .before .before .args .r), c .before .before .before .before .before .before .before .before .before .before .noted-at2 .ensures)
 
 put-row-requires-3 : tie.Need-put-row-requires-3
-put-row-requires-3 c κs = let P = c .before .before .before .before .before .before .before .before .before .before .before .before .before .pre in let f = loop-fits _ _ _ _ _ _ _ (P .0) _ _ _ (P .1) (c .before .before .before .before .before .before .before .before .before .before .before .noted-at .ensures) (c .before .before .before .before .before .before .before .before .before .before .noted-at2 .ensures) (P .2) in omega arith
+put-row-requires-3 c κs = search needs
 
 returns : tie.Need-returns
-returns c = let P = c .before .before .before .before .before .before .before .before .before .before .before .before .before .before .pre in loop-laid _ _ _ _ _ _ _ (P .0) _ _ _ (P .1) (c .before .before .before .before .before .before .before .before .before .before .before .before .noted-at .ensures) (c .before .before .before .before .before .before .before .before .before .before .before .noted-at2 .ensures) _ _ _ _ _ _ _ _ _ (P .2) (P .3) (c .before .before .before .before .before .before .before .before .before .before .word-at .ensures) (c .before .before .before .before .before .before .before .before .before .word-at2 .ensures) (c .before .before .before .before .before .before .before .before .wire-of .ensures) (c .before .before .before .before .before .before .before .wire-of2 .ensures) (c .before .before .before .before .before .before .wire-of3 .ensures) (c .before .before .before .before .put-row .ensures) (c .before .before .put-row2 .ensures) (c .put-row3 .ensures)
+returns c =
+    three-loop-rows (c .before .before .before .before .before .before .before .before .before .before .before .before .before .before .args .rows .now) _ _ _ _ _ _ _ _ _ _ _ _ _ _ _ _ _
+    (c .before .before .before .before .before .before .before .before .before .before .before .before .noted-at .ensures)
+    (c .before .before .before .before .before .before .before .before .before .before .before .noted-at2 .ensures)
+    (c .before .before .before .before .before .before .before .before .before .before .word-at .ensures)
+    (c .before .before .before .before .before .before .before .before .before .word-at2 .ensures)
+    (c .before .before .before .before .before .before .before .before .wire-of .ensures)
+    (c .before .before .before .before .before .before .before .wire-of2 .ensures)
+    (c .before .before .before .before .before .before .wire-of3 .ensures)
+    (c .before .before .before .before .put-row .ensures)
+    (c .before .before .put-row2 .ensures)
+    (c .put-row3 .ensures)
 
 pub lay-loop-spec : {M : Type 1} → statement M
 lay-loop-spec =

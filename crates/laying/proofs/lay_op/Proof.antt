@@ -1,6 +1,4 @@
 -- `laying::lay_op` meets its contract: one row. Assumes nothing.
-use mathlib.Core.Logic.{inl}
-use Rattle.laying.proofs.Nodes.{op-fits, op-laid}
 use borrow.Author.Needs.{needs}
 use Rattle.laying.proofs.lay_op.Statement.{statement}
 use Rattle.laying.proofs.lay_op.Tie as tie
@@ -30,10 +28,10 @@ wire-of-requires-2 : tie.Need-wire-of-requires-2
 wire-of-requires-2 c κs = search needs
 
 put-row-requires : tie.Need-put-row-requires
-put-row-requires c κs = let P = c .before .before .before .before .before .before .before .pre in op-fits _ _ _ _ _ _ _ (P .0) _ _ _ (P .1) (c .before .before .before .before .before .noted-at .ensures) (c .before .before .before .before .noted-at2 .ensures) (inl (P .2))
+put-row-requires c κs = search needs
 
 returns : tie.Need-returns
-returns c = let P = c .before .before .before .before .before .before .before .before .pre in op-laid _ _ _ _ _ _ _ (P .0) _ _ _ (P .1) (c .before .before .before .before .before .before .noted-at .ensures) (c .before .before .before .before .before .noted-at2 .ensures) _ _ _ _ _ (P .2) (P .3) (c .before .before .before .before .word-at .ensures) (c .before .before .wire-of .ensures) (c .before .wire-of2 .ensures) (c .put-row .ensures)
+returns c = cc
 
 pub lay-op-spec : {M : Type 1} → statement M
 lay-op-spec =

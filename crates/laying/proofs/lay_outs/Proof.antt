@@ -3,6 +3,7 @@ use Prim.Native.Nat.{_-_, _≤_}
 use native.Mathlib.Omega.{arith}
 use Rattle.laying.proofs.Results.{no-outs, all-outs}
 use Rattle.laying.specs.Rows.{OutsLaid}
+use Rattle.carrying.specs.Sized.{sized, row-sized}
 use Rattle.laying.proofs.lay_outs.Statement.{statement}
 use Rattle.laying.proofs.lay_outs.Tie as tie
 
@@ -16,7 +17,7 @@ loop-holds : tie.Need-loop-holds Inv-loop μ-loop
 loop-holds c = let P = c .before .pre in (omega arith, no-outs _ _ (P .2))
 
 lay-out-requires : tie.Need-lay-out-requires Inv-loop μ-loop
-lay-out-requires c κs = let P = c .before .before .before .before .pre in (P .0, P .1, c .before .loop-test .taken, c .before .before .loop .inv .1)
+lay-out-requires c κs = let P = c .before .before .before .before .pre in (sized _ _ (P .0), P .1, row-sized _ _ (P .0) _ (c .before .loop-test .taken), c .before .before .loop .inv .1)
 
 add-r : tie.Need-add-r Inv-loop μ-loop
 add-r c = omega (arith, c .before .before .loop-test .taken)

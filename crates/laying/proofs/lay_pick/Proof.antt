@@ -1,6 +1,4 @@
 -- `laying::lay_pick` meets its contract: one row. Assumes nothing.
-use mathlib.Core.Logic.{inr}
-use Rattle.laying.proofs.Nodes.{op-fits, pick-laid}
 use borrow.Author.Needs.{needs}
 use Rattle.laying.proofs.lay_pick.Statement.{statement}
 use Rattle.laying.proofs.lay_pick.Tie as tie
@@ -36,10 +34,10 @@ wire-of-requires-3 : tie.Need-wire-of-requires-3
 wire-of-requires-3 c κs = search needs
 
 put-row-requires : tie.Need-put-row-requires
-put-row-requires c κs = let P = c .before .before .before .before .before .before .before .pre in op-fits _ _ _ _ _ _ _ (P .0) _ _ _ (P .1) (c .before .before .before .before .before .noted-at .ensures) (c .before .before .before .before .noted-at2 .ensures) (inr (P .2))
+put-row-requires c κs = search needs
 
 returns : tie.Need-returns
-returns c = let P = c .before .before .before .before .before .before .before .before .pre in pick-laid _ _ _ _ _ _ _ (P .0) _ _ _ (P .1) (c .before .before .before .before .before .before .noted-at .ensures) (c .before .before .before .before .before .noted-at2 .ensures) _ _ _ _ _ (P .2) (P .3) (c .before .before .before .before .wire-of .ensures) (c .before .before .before .wire-of2 .ensures) (c .before .before .wire-of3 .ensures) (c .put-row .ensures)
+returns c = cc
 
 pub lay-pick-spec : {M : Type 1} → statement M
 lay-pick-spec =

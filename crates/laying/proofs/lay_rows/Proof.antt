@@ -13,10 +13,10 @@ abbrev μ-loop : tie.MeasureT-loop
 μ-loop table n bodies pairs nodes wires at rows₀ r₀ rows r = n - r
 
 loop-holds : tie.Need-loop-holds Inv-loop μ-loop
-loop-holds c = (omega arith, no-rows _ _ (c .before .pre .1))
+loop-holds c = (omega arith, no-rows _ _ (c .before .pre .2))
 
 lay-row-requires : tie.Need-lay-row-requires Inv-loop μ-loop
-lay-row-requires c κs = (c .before .before .before .before .pre .0, c .before .loop-test .taken, c .before .before .loop .inv .1 .long)
+lay-row-requires c κs = let P = c .before .before .before .before .pre in (P .1, omega (arith, P .0, c .before .loop-test .taken), c .before .before .loop .inv .1 .long)
 
 add-r : tie.Need-add-r Inv-loop μ-loop
 add-r c = omega (arith, c .before .before .loop-test .taken)

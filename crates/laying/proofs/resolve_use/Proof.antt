@@ -1,4 +1,5 @@
 -- `laying::resolve_use` meets its contract. Assumes nothing.
+use Rattle.carrying.specs.Sized.{sized, row-sized, bodies-sized}
 use Rattle.laying.proofs.Uses.{value-below, is-value, row-below, place-below, way, carried-on-the-way, use-resolved}
 use borrow.Author.Needs.{needs}
 use Rattle.laying.proofs.resolve_use.Statement.{statement}
@@ -8,15 +9,15 @@ home-of-requires : tie.Need-home-of-requires
 home-of-requires c κs = let P = c .before .pre in (P .0, P .1, value-below _ _ (P .0) _ _ (P .3))
 
 home-wire-requires : tie.Need-home-wire-requires
-home-wire-requires c κs = let P = c .before .before .pre in (P .0, P .2, P .4 .wire, value-below _ _ (P .0) _ _ (P .3), is-value _ _ (P .0) _ _ (P .3))
+home-wire-requires c κs = let P = c .before .before .pre in (sized _ _ (P .0), P .2, P .4 .wire, row-sized _ _ (P .0) _ (value-below _ _ (P .0) _ _ (P .3)), is-value _ _ (P .0) _ _ (P .3))
 
 reads-of-requires : tie.Need-reads-of-requires
-reads-of-requires c κs = let P = c .before .before .before .pre in (P .0, P .1, row-below _ _ (P .0) _ _ (P .3))
+reads-of-requires c κs = let P = c .before .before .before .pre in (sized _ _ (P .0), bodies-sized _ _ (P .0) _ (P .1), row-sized _ _ (P .0) _ (row-below _ _ (P .0) _ _ (P .3)))
 
 resolve-requires : tie.Need-resolve-requires
 resolve-requires c κs = let P = c .before .before .before .before .before .before .before .pre in
     let b = c .before .before .before .reads-of .ensures in
-    (P .0, P .1, value-below _ _ (P .0) _ _ (P .3), c .before .before .before .before .before .home-of .ensures, way _ _ (P .0) _ _ (P .3) _ b, carried-on-the-way _ _ (P .0) _ _ (P .3) _ b, P .4, P .5, P .6)
+    (sized _ _ (P .0), bodies-sized _ _ (P .0) _ (P .1), row-sized _ _ (P .0) _ (value-below _ _ (P .0) _ _ (P .3)), c .before .before .before .before .before .home-of .ensures, way _ _ (P .0) _ _ (P .3) _ b, carried-on-the-way _ _ (P .0) _ _ (P .3) _ b, P .4, P .5, P .6)
 
 mul-at : tie.Need-mul-at
 mul-at c = search needs
