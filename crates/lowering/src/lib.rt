@@ -174,7 +174,7 @@ pub fn lower(table: &[u32], graph: &mut [u32]) -> Lowered
     let mut uses = [0u32; 8192];
     let mut free = [0u32; 8192];
     let sizes = measure(table, n, &mut rows, &mut outs, &mut uses, &mut free);
-    if sizes.room {} else {
+    if !sizes.room {
         return Lowered {
             number: ROOM,
             row: n,

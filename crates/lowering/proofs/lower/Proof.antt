@@ -6,7 +6,7 @@ use native.Mathlib.Omega.{arith}
 use borrow.Author.Needs.{needs}
 use lib.ListN.{length-replicate}
 use Rattle.forking.specs.Tallied.{none-tallied}
-use Rattle.lowering.proofs.Answers.{words-are, few-rows, passing, lower-refused, lower-crowded, lower-lent, lower-done}
+use Rattle.lowering.proofs.Answers.{words-are, few-rows, passing, lower-refused, lower-crowded, lower-lent, lower-done, off, on}
 use Rattle.lowering.proofs.lower.Statement.{statement}
 use Rattle.lowering.proofs.lower.Tie as tie
 
@@ -23,7 +23,7 @@ measure-requires : tie.Need-measure-requires
 measure-requires c κs = (passing (c .before .before .before .before .before .before .before .before .before .args .table .now) (c .before .before .before .before .before .before .check-rows .ensures) (c .before .before .before .before .if1 .left) refl, length-replicate {A = ℕ} 28672 0, length-replicate {A = ℕ} 512 0, none-tallied, none-tallied)
 
 returns-2 : tie.Need-returns-2
-returns-2 c = lower-crowded (c .before .before .before .before .before .before .before .before .before .before .before .args .table .now) (c .before .before .before .before .before .before .before .before .check-rows .ensures) (c .before .before .before .before .before .before .before .before .before .before .before .args .graph .now) (c .before .before .before .before .before .before .if1 .left) refl (c .before .measure .ensures .room) (c .if2 .left)
+returns-2 c = lower-crowded (c .before .before .before .before .before .before .before .before .before .before .before .before .args .table .now) (c .before .before .before .before .before .before .before .before .before .check-rows .ensures) (c .before .before .before .before .before .before .before .before .before .before .before .before .args .graph .now) (c .before .before .before .before .before .before .before .if1 .left) refl (c .before .before .measure .ensures .room) (off _ (c .if2 .taken))
 
 wide-requires : tie.Need-wide-requires
 wide-requires c κs = search needs
@@ -50,19 +50,19 @@ add-length-3 : tie.Need-add-length-3
 add-length-3 c = search needs
 
 returns-3 : tie.Need-returns-3
-returns-3 c = let t = c .before .before .before .before .before .before .before .before .before .before .before .before .before .before .before .args .table .now in let q = c .before .before .before .before .before .measure .ensures .ready (c .before .before .before .before .if2 .taken) in
-    lower-lent t (c .before .before .before .before .before .before .before .before .before .before .before .before .check-rows .ensures) (c .before .before .before .before .before .before .before .before .before .before .before .before .before .before .before .args .graph .now) (c .before .before .before .before .before .before .before .before .before .before .if1 .left) refl (words-are t (q .1) (c .before .before .before .wide .ensures .0) (c .before .before .wide2 .ensures .0) (c .before .wide3 .ensures .0)) (c .if3 .taken)
+returns-3 c = let t = c .before .before .before .before .before .before .before .before .before .before .before .before .before .before .before .before .args .table .now in let q = c .before .before .before .before .before .before .measure .ensures .ready (on _ (c .before .before .before .before .if2 .left)) in
+    lower-lent t (c .before .before .before .before .before .before .before .before .before .before .before .before .before .check-rows .ensures) (c .before .before .before .before .before .before .before .before .before .before .before .before .before .before .before .before .args .graph .now) (c .before .before .before .before .before .before .before .before .before .before .before .if1 .left) refl (words-are t (q .1) (c .before .before .before .wide .ensures .0) (c .before .before .wide2 .ensures .0) (c .before .wide3 .ensures .0)) (c .if3 .taken)
 
 write-graph-requires : tie.Need-write-graph-requires
-write-graph-requires c κs = let t = c .before .before .before .before .before .before .before .before .before .before .before .before .before .before .before .before .before .before .before .before .args .table .now in let q = c .before .before .before .before .before .before .before .before .before .before .measure .ensures .ready (c .before .before .before .before .before .before .before .before .before .if2 .taken) in
+write-graph-requires c κs = let t = c .before .before .before .before .before .before .before .before .before .before .before .before .before .before .before .before .before .before .before .before .before .args .table .now in let q = c .before .before .before .before .before .before .before .before .before .before .before .measure .ensures .ready (on _ (c .before .before .before .before .before .before .before .before .before .if2 .left)) in
     let e = words-are t (q .1) (c .before .before .before .before .before .before .before .before .wide .ensures .0) (c .before .before .before .before .before .before .before .wide2 .ensures .0) (c .before .before .before .before .before .before .wide3 .ensures .0) in let l = c .before .before .before .before .before .if3 .left in (q .0, q .1, omega arith)
 
 same-length : tie.Need-same-length
 same-length c = search needs
 
 returns-4 : tie.Need-returns-4
-returns-4 c = let t = c .before .before .before .before .before .before .before .before .before .before .before .before .before .before .before .before .before .before .before .before .before .before .before .args .table .now in let q = c .before .before .before .before .before .before .before .before .before .before .before .before .before .measure .ensures .ready (c .before .before .before .before .before .before .before .before .before .before .before .before .if2 .taken) in
-    lower-done t (c .before .before .before .before .before .before .before .before .before .before .before .before .before .before .before .before .before .before .before .before .check-rows .ensures) (c .before .before .before .before .before .before .before .before .before .before .before .before .before .before .before .before .before .before .before .before .before .before .before .args .graph .now) (c .before .before .before .before .before .before .before .before .before .before .before .before .before .before .before .before .before .before .if1 .left) (c .before .before .before .before .before .before .before .before .before .before .before .before .before .measure .ensures .room) (c .before .before .before .before .before .before .before .before .before .before .before .before .if2 .taken) (words-are t (q .1) (c .before .before .before .before .before .before .before .before .before .before .before .wide .ensures .0) (c .before .before .before .before .before .before .before .before .before .before .wide2 .ensures .0) (c .before .before .before .before .before .before .before .before .before .wide3 .ensures .0)) (c .before .before .before .before .before .before .before .before .if3 .left) (c .before .before .write-graph .ensures)
+returns-4 c = let t = c .before .before .before .before .before .before .before .before .before .before .before .before .before .before .before .before .before .before .before .before .before .before .before .before .args .table .now in let q = c .before .before .before .before .before .before .before .before .before .before .before .before .before .before .measure .ensures .ready (on _ (c .before .before .before .before .before .before .before .before .before .before .before .before .if2 .left)) in
+    lower-done t (c .before .before .before .before .before .before .before .before .before .before .before .before .before .before .before .before .before .before .before .before .before .check-rows .ensures) (c .before .before .before .before .before .before .before .before .before .before .before .before .before .before .before .before .before .before .before .before .before .before .before .before .args .graph .now) (c .before .before .before .before .before .before .before .before .before .before .before .before .before .before .before .before .before .before .before .if1 .left) (c .before .before .before .before .before .before .before .before .before .before .before .before .before .before .measure .ensures .room) (on _ (c .before .before .before .before .before .before .before .before .before .before .before .before .if2 .left)) (words-are t (q .1) (c .before .before .before .before .before .before .before .before .before .before .before .wide .ensures .0) (c .before .before .before .before .before .before .before .before .before .before .wide2 .ensures .0) (c .before .before .before .before .before .before .before .before .before .wide3 .ensures .0)) (c .before .before .before .before .before .before .before .before .if3 .left) (c .before .before .write-graph .ensures)
 
 pub lower-spec : {M : Type 1} → statement M
 lower-spec =
