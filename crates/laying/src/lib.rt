@@ -107,7 +107,8 @@ fn lay_copy(rows: &mut [u32; 28672], i: u32, w: u32, place: u32, sort: u32, oute
     );
 }
 
-// The wire of value v in loop b, where it comes to the body around on wire `outer`. The copy made for b is laid down where it is not there yet.
+// The wire of value v in loop b, where it comes to the body around on wire `outer`. The copy made for b is laid down where it is not there yet:
+// `counts` has how many copies each loop has so far, and `lasts` one more than the value of its last one.
 fn enter(
     table: &[u32],
     nodes: &[u32; 512],
