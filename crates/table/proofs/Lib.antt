@@ -1,5 +1,5 @@
 -- The laws that the proofs of the functions cite.
 pub mod Loops
-pub mod Sight
+pub mod Visible
 pub mod Noting
 pub mod Turns

@@ -12,7 +12,7 @@ use lib.ListN.{getD, set, length, replicate, length-replicate, length-set}
 use lib.Seq.{getD-set-same, getD-set-other}
 use Rattle.table.specs.Rows.{kindOf, size}
 use Rattle.table.specs.Scan.{after, stackAt, inner, bodyOf, homeBy, home}
-use Rattle.table.specs.Check.{depthRight, endRight, rowRefusal, answer, rowsFrom}
+use Rattle.table.specs.Check.{kindRight, spareRight, codeRight, placeRight, depthRight, namesRight, typesRight, endRight, orElse, rowRefusal, answer, rowsFrom}
 use Rattle.table.specs.Right.{passing-row-is-right}
 use Rattle.table.specs.Kept.{openLoops, depthAfter, Noted}
 
@@ -59,6 +59,22 @@ noted-more t i {kind} {n} {h} {b} {d} {e} {hs} {bs} {a} a₁ N l en ek eh eb ea 
 pub room : (t : List ℕ) (i : ℕ) {kind x : ℕ} → kind ≡ kindOf t i → x ≡ rowRefusal t i → x ≡ 0 → kind ≡ 4 → length (stackAt t i) < 8
 unfolding depthRight
 room t i ek ex z k = ltb-true _ 8 (rw (← ek, k) at (passing-row-is-right t i (sym ex ∙ z) .depth))
+
+-- a row is refused by 2 to 8 alone
+pub row-number : (t : List ℕ) (r : ℕ) {x : ℕ} → x ≡ rowRefusal t r → (x ≡ 1 → ⊥) × (x ≡ 9 → ⊥)
+unfolding rowRefusal
+row-number t r e = go (kindRight t r) (spareRight t r) (codeRight t r) (placeRight t r) (depthRight t r) (namesRight t r) (typesRight t r) e
+  where
+    go : {x : ℕ} (b2 b3 b4 b5 b6 b7 b8 : Bool)
+        → x ≡ orElse b2 2 (orElse b3 3 (orElse b4 4 (orElse b5 5 (orElse b6 6 (orElse b7 7 (orElse b8 8 0)))))) → (x ≡ 1 → ⊥) × (x ≡ 9 → ⊥)
+    go false b3 b4 b5 b6 b7 b8 e = (λ q. omega arith, λ q. omega arith)
+    go true false b4 b5 b6 b7 b8 e = (λ q. omega arith, λ q. omega arith)
+    go true true false b5 b6 b7 b8 e = (λ q. omega arith, λ q. omega arith)
+    go true true true false b6 b7 b8 e = (λ q. omega arith, λ q. omega arith)
+    go true true true true false b7 b8 e = (λ q. omega arith, λ q. omega arith)
+    go true true true true true false b8 e = (λ q. omega arith, λ q. omega arith)
+    go true true true true true true false e = (λ q. omega arith, λ q. omega arith)
+    go true true true true true true true e = (λ q. omega arith, λ q. omega arith)
 
 module _ (t : List ℕ) (n i : ℕ) where
   less : i < n → n - i ≡ suc (n - (i + 1))

@@ -3,6 +3,8 @@ pub mod Rows
 pub mod Scan
 pub mod Bodies
 pub mod Check
+pub mod Clauses
+pub mod Broken
 pub mod Kept
 pub mod Right
 pub mod Cases

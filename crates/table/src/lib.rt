@@ -1,14 +1,16 @@
-// The check of a loop table's rows: refusals 1 to 9 of the paper, with the row that tells the fitter what to mend.
-// `check_rows` is the entry. The stack of open loops is eight entries of three words (first row, ARGs, NEXTs), by value.
+// The check of a loop table's rows: refusals 1 to 9, with the row and the clause that tells the fitter what to mend.
+// `tell_rows` and `check_rows` are the entries. The stack of open loops is eight entries of three words (first row, ARGs, NEXTs), by value.
 ghost use mathlib.Core.Path.{_≡_};
 ghost use Prim.Native.Nat.{_+_, _-_, _*_, _/_, _%_, _<_, _≤_};
 ghost use mathlib.Core.Bool.{true, cond};
-ghost use lib.Dec.{eqb};
+ghost use lib.Dec.{eqb, ltb};
 ghost use mathlib.Core.List.{[], _∷_};
 ghost use lib.ListN.{length, getD};
 ghost use Rattle.table.specs.Rows.{kindOf, word, size, usedWords, operandCount, firstOperand, sortOf, wantedSort};
-ghost use Rattle.table.specs.Scan.{after, inner, homeBy, holds, bodyOpen, visible, stackAt};
-ghost use Rattle.table.specs.Check.{spareRight, codeRight, kindBefore, follows, argLeft, allServed, outside, stands, placeRight, depthRight, namesRight, typesRight, endRight, rowRefusal, answer, rowsFrom, tableRefusal};
+ghost use Rattle.table.specs.Scan.{after, inner, homeBy, holds, bodyOpen, stackAt};
+ghost use Rattle.table.specs.Bodies.{nextsIn};
+ghost use Rattle.table.specs.Check.{kindBefore, outside, depthRight, endRight, rowRefusal, answer, rowsFrom, tableRefusal};
+ghost use Rattle.table.specs.Clauses.{spareWord, codeWord, followsFault, argsIn, nextFault, endFault, standsFault, placeFault, sight, hiddenWord, mistypedWord, detail, nameDetail, explained, Told};
 ghost use Rattle.table.specs.Kept.{entryOf, openLoops, depthAfter, Counted, Noted};
 
 // The kinds of rows.
@@ -48,6 +50,45 @@ const NAME: u32 = 7;
 const TYPE: u32 = 8;
 
 const OPEN: u32 = 9;
+
+// The faults: what a clause of LENGTH, of PLACE, of NAME or of OPEN says; for TYPE the fault is the sort that is wanted, 1 for a flag.
+pub const SPLIT_ROW: u32 = 1;
+
+pub const NO_ROW: u32 = 2;
+
+pub const MANY_ROWS: u32 = 3;
+
+pub const BEHIND_OUT: u32 = 1;
+
+pub const BEHIND_NEXT: u32 = 2;
+
+pub const LATE_START: u32 = 3;
+
+pub const LATE_ARG: u32 = 4;
+
+pub const LONE_NEXT: u32 = 5;
+
+pub const MANY_NEXTS: u32 = 6;
+
+pub const LONE_END: u32 = 7;
+
+pub const EARLY_END: u32 = 8;
+
+pub const INNER_OUT: u32 = 9;
+
+pub const LATER: u32 = 1;
+
+pub const VALUELESS: u32 = 2;
+
+pub const CLOSED: u32 = 3;
+
+pub const ENTERED: u32 = 4;
+
+pub const UNENDED: u32 = 5;
+
+pub const UNCLOSED: u32 = 1;
+
+pub const OUTLESS: u32 = 2;
 
 fn used_words(kind: u32) -> u32
     ensures { λ r. ⌜ (r ≡ usedWords kind) × (r ≤ 5) ⌝ }
@@ -121,28 +162,36 @@ fn sort_of(table: &[u32], n: u32, v: u32) -> u32
     0
 }
 
-fn row_follows(before: u32, kind: u32) -> bool
-    ensures { λ r. ⌜ r ≡ follows before kind ⌝ }
+// The fault where what should hold does not.
+fn unless(right: bool, fault: u32) -> u32
+    ensures { λ r. ⌜ r ≡ cond right 0 fault ⌝ }
+{
+    if right { 0 } else { fault }
+}
+
+// What is wrong with a row of this kind behind the row before it, or 0.
+fn follows_fault(before: u32, kind: u32) -> u32
+    ensures { λ r. ⌜ r ≡ followsFault before kind ⌝ }
 {
     if before == OUT {
-        return kind == OUT;
+        return unless(kind == OUT, BEHIND_OUT);
     }
     if before == NEXT {
         if kind == NEXT {
-            return true;
+            return 0;
         }
-        return kind == END;
+        return unless(kind == END, BEHIND_NEXT);
     }
     if kind <= CONST {
-        return before <= CONST;
+        return unless(before <= CONST, LATE_START);
     }
     if kind == ARG {
         if before == FOR {
-            return true;
+            return 0;
         }
-        return before == ARG;
+        return unless(before == ARG, LATE_ARG);
     }
-    true
+    0
 }
 
 fn kind_before(table: &[u32], r: u32) -> u32
@@ -155,35 +204,36 @@ fn kind_before(table: &[u32], r: u32) -> u32
     kind_at(table, r - 1)
 }
 
-fn spare_right(table: &[u32], r: u32) -> bool
+// The first word of row r that breaks a rule, 1 to 5 for a to e; 0 where none does. So are the other tests of words below.
+fn spare_word(table: &[u32], r: u32) -> u32
     requires { ⌜ (r < size (now table)) × (r < 512) ⌝ }
-    ensures { λ b. ⌜ b ≡ spareRight (now (table .entry)) r ⌝ }
+    ensures { λ w. ⌜ w ≡ spareWord (now (table .entry)) r ⌝ }
 {
     let mut k = used_words(kind_at(table, r)) + 1;
     while k < 6 {
         if word_at(table, r, k) != 0 {
-            return false;
+            return k;
         }
         k += 1;
     }
-    true
+    0
 }
 
-fn code_right(table: &[u32], r: u32) -> bool
+fn code_word(table: &[u32], r: u32) -> u32
     requires { ⌜ (r < size (now table)) × (r < 512) ⌝ }
-    ensures { λ b. ⌜ b ≡ codeRight (now (table .entry)) r ⌝ }
+    ensures { λ w. ⌜ w ≡ codeWord (now (table .entry)) r ⌝ }
 {
     let kind = kind_at(table, r);
     if kind == OP {
-        return word_at(table, r, 1) <= 7;
+        return unless(word_at(table, r, 1) <= 7, 1);
     }
     if kind == FOR {
         if word_at(table, r, 4) <= 5 {
-            return word_at(table, r, 5) <= 4;
+            return unless(word_at(table, r, 5) <= 4, 5);
         }
-        return false;
+        return 4;
     }
-    true
+    0
 }
 
 // Number j of entry d: 0 its first row, 1 its ARGs, 2 its NEXTs.
@@ -244,51 +294,74 @@ fn is_open(b: u32, stack: [[u32; 3]; 8], d: usize) -> bool
     false
 }
 
-fn arg_left(stack: [[u32; 3]; 8], d: usize) -> bool
+// The ARGs and the NEXTs of the innermost loop so far; none where no loop is open.
+fn args_in(stack: [[u32; 3]; 8], d: usize) -> u32
     requires { ⌜ d ≤ 8 ⌝ }
-    ensures { λ r. ⌜ r ≡ argLeft (openLoops stack d) ⌝ }
+    ensures { λ r. ⌜ r ≡ argsIn (openLoops stack d) ⌝ }
 {
     if d == 0 {
-        return false;
+        return 0;
     }
-    entry(stack, d - 1, 2) < entry(stack, d - 1, 1)
+    entry(stack, d - 1, 1)
 }
 
-fn all_served(stack: [[u32; 3]; 8], d: usize) -> bool
+fn nexts_in(stack: [[u32; 3]; 8], d: usize) -> u32
     requires { ⌜ d ≤ 8 ⌝ }
-    ensures { λ r. ⌜ r ≡ allServed (openLoops stack d) ⌝ }
+    ensures { λ r. ⌜ r ≡ nextsIn (openLoops stack d) ⌝ }
 {
     if d == 0 {
-        return false;
+        return 0;
     }
-    entry(stack, d - 1, 2) == entry(stack, d - 1, 1)
+    entry(stack, d - 1, 2)
 }
 
-fn row_stands(kind: u32, stack: [[u32; 3]; 8], d: usize) -> bool
+fn next_fault(stack: [[u32; 3]; 8], d: usize) -> u32
     requires { ⌜ d ≤ 8 ⌝ }
-    ensures { λ r. ⌜ r ≡ stands kind (openLoops stack d) ⌝ }
+    ensures { λ r. ⌜ r ≡ nextFault (openLoops stack d) ⌝ }
+{
+    if d == 0 {
+        return LONE_NEXT;
+    }
+    unless(nexts_in(stack, d) < args_in(stack, d), MANY_NEXTS)
+}
+
+fn end_fault(stack: [[u32; 3]; 8], d: usize) -> u32
+    requires { ⌜ d ≤ 8 ⌝ }
+    ensures { λ r. ⌜ r ≡ endFault (openLoops stack d) ⌝ }
+{
+    if d == 0 {
+        return LONE_END;
+    }
+    unless(nexts_in(stack, d) == args_in(stack, d), EARLY_END)
+}
+
+// What is wrong with a row of this kind among the open loops, or 0.
+fn stands_fault(kind: u32, stack: [[u32; 3]; 8], d: usize) -> u32
+    requires { ⌜ d ≤ 8 ⌝ }
+    ensures { λ r. ⌜ r ≡ standsFault kind (openLoops stack d) ⌝ }
 {
     if kind == NEXT {
-        return arg_left(stack, d);
+        return next_fault(stack, d);
     }
     if kind == END {
-        return all_served(stack, d);
+        return end_fault(stack, d);
     }
     if kind == OUT {
-        return d == 0;
+        return unless(d == 0, INNER_OUT);
     }
-    true
+    0
 }
 
-fn place_right(table: &[u32], stack: [[u32; 3]; 8], d: usize, r: u32) -> bool
+fn place_fault(table: &[u32], stack: [[u32; 3]; 8], d: usize, r: u32) -> u32
     requires { ⌜ (r < size (now table)) × (r < 512) × (d ≤ 8) × (openLoops stack d ≡ stackAt (now table) r) ⌝ }
-    ensures { λ b. ⌜ b ≡ placeRight (now (table .entry)) r ⌝ }
+    ensures { λ f. ⌜ f ≡ placeFault (now (table .entry)) r ⌝ }
 {
     let kind = kind_at(table, r);
-    if row_follows(kind_before(table, r), kind) {
-        return row_stands(kind, stack, d);
+    let before = follows_fault(kind_before(table, r), kind);
+    if before != 0 {
+        return before;
     }
-    false
+    stands_fault(kind, stack, d)
 }
 
 fn depth_right(table: &[u32], d: usize, r: u32) -> bool
@@ -321,7 +394,8 @@ fn read_depth(kind: u32, d: usize) -> usize
     depth_outward(d)
 }
 
-fn is_visible(
+// What hides value v from row r, or 0.
+fn sight(
     table: &[u32],
     homes: &[u32; 512],
     bodies: &[u32; 512],
@@ -330,32 +404,31 @@ fn is_visible(
     n: u32,
     r: u32,
     v: u32,
-) -> bool
+) -> u32
     requires { ⌜ (r < n) × (n ≡ size (now table)) × Noted (now table) r (now homes) (now bodies) stack d ⌝ }
-    ensures { λ b. ⌜ b ≡ visible (now (table .entry)) r v ⌝ }
+    ensures { λ f. ⌜ f ≡ sight (now (table .entry)) r v ⌝ }
 {
     if v >= r {
-        return false;
+        return LATER;
     }
     let kind = kind_at(table, v);
     if kind > NEXT {
-        return false;
+        return VALUELESS;
     }
-    if body_open(
-        n,
-        homes[v as usize],
-        stack,
-        read_depth(kind_at(table, r), d),
-    ) {
+    let home = homes[v as usize];
+    if body_open(n, home, stack, read_depth(kind_at(table, r), d)) {
         if kind == NEXT {
-            return !is_open(bodies[v as usize], stack, d);
+            return unless(!is_open(bodies[v as usize], stack, d), UNENDED);
         }
-        return true;
+        return 0;
     }
-    false
+    if body_open(n, home, stack, d) {
+        return ENTERED;
+    }
+    CLOSED
 }
 
-fn names_right(
+fn hidden_word(
     table: &[u32],
     homes: &[u32; 512],
     bodies: &[u32; 512],
@@ -363,37 +436,36 @@ fn names_right(
     d: usize,
     n: u32,
     r: u32,
-) -> bool
+) -> u32
     requires { ⌜ (r < n) × (n ≡ size (now table)) × Noted (now table) r (now homes) (now bodies) stack d ⌝ }
-    ensures { λ b. ⌜ b ≡ namesRight (now (table .entry)) r ⌝ }
+    ensures { λ w. ⌜ (w ≡ hiddenWord (now (table .entry)) r) × (w < 6) ⌝ }
 {
     let kind = kind_at(table, r);
     let mut k = first_operand(kind);
     let end = k + operand_count(kind);
     while k < end {
-        if is_visible(table, homes, bodies, stack, d, n, r, word_at(table, r, k)) {
-            k += 1;
-        } else {
-            return false;
+        if sight(table, homes, bodies, stack, d, n, r, word_at(table, r, k)) != 0 {
+            return k;
         }
+        k += 1;
     }
-    true
+    0
 }
 
-fn types_right(table: &[u32], n: u32, r: u32) -> bool
+fn mistyped_word(table: &[u32], n: u32, r: u32) -> u32
     requires { ⌜ (r < n) × (n ≤ 512) × (length (now table) ≡ 6 * n) ⌝ }
-    ensures { λ b. ⌜ b ≡ typesRight (now (table .entry)) r ⌝ }
+    ensures { λ w. ⌜ w ≡ mistypedWord (now (table .entry)) r ⌝ }
 {
     let kind = kind_at(table, r);
     let mut k = first_operand(kind);
     let end = k + operand_count(kind);
     while k < end {
         if sort_of(table, n, word_at(table, r, k)) != wanted_sort(kind, k) {
-            return false;
+            return k;
         }
         k += 1;
     }
-    true
+    0
 }
 
 fn row_refusal(
@@ -411,22 +483,22 @@ fn row_refusal(
     if kind_at(table, r) > OUT {
         return KIND;
     }
-    if spare_right(table, r) {} else {
+    if spare_word(table, r) != 0 {
         return SPARE;
     }
-    if code_right(table, r) {} else {
+    if code_word(table, r) != 0 {
         return CODE;
     }
-    if place_right(table, stack, d, r) {} else {
+    if place_fault(table, stack, d, r) != 0 {
         return PLACE;
     }
     if depth_right(table, d, r) {} else {
         return DEPTH;
     }
-    if names_right(table, homes, bodies, stack, d, n, r) {} else {
+    if hidden_word(table, homes, bodies, stack, d, n, r) != 0 {
         return NAME;
     }
-    if types_right(table, n, r) {} else {
+    if mistyped_word(table, n, r) != 0 {
         return TYPE;
     }
     0
@@ -498,15 +570,127 @@ fn end_right(table: &[u32], d: usize, n: u32) -> bool
     false
 }
 
-// What a check answers: a refusal's number and row, or 0 and 0.
-pub struct Checked {
+// What a check tells: a refusal's number and row, 0 and 0 where there is none, and which clause is broken. `word` is 0 for the kind, 1 to 5 for
+// a to e; `body` is the FOR row of the loop that matters, or the row count where no loop is open; `args` and `nexts` are that loop's so far.
+pub struct Clause {
     pub number: u32,
     pub row: u32,
+    pub fault: u32,
+    pub word: u32,
+    pub body: u32,
+    pub args: u32,
+    pub nexts: u32,
 }
 
-fn rows_checked(table: &[u32], n: u32) -> Checked
+// A clause that one word breaks.
+fn by_word(number: u32, row: u32, fault: u32, word: u32, body: u32) -> Clause
+    ensures { λ c. ⌜ (c .number ≡ number) × (c .row ≡ row) × (detail (c .fault) (c .word) (c .body) (c .args) (c .nexts) ≡ detail fault word body 0 0) ⌝ }
+{
+    Clause {
+        number,
+        row,
+        fault,
+        word,
+        body,
+        args: 0,
+        nexts: 0,
+    }
+}
+
+// A clause about the innermost loop.
+fn by_loop(number: u32, row: u32, fault: u32, n: u32, stack: [[u32; 3]; 8], d: usize) -> Clause
+    requires { ⌜ d ≤ 8 ⌝ }
+    ensures { λ c. ⌜ (c .number ≡ number) × (c .row ≡ row) × (detail (c .fault) (c .word) (c .body) (c .args) (c .nexts) ≡ detail fault 0 (inner n (openLoops stack d)) (argsIn (openLoops stack d)) (nextsIn (openLoops stack d))) ⌝ }
+{
+    Clause {
+        number,
+        row,
+        fault,
+        word: 0,
+        body: inner_body(n, stack, d),
+        args: args_in(stack, d),
+        nexts: nexts_in(stack, d),
+    }
+}
+
+// The loop that a hidden value belongs to.
+fn hidden_body(homes: &[u32; 512], bodies: &[u32; 512], fault: u32, v: u32) -> u32
+    requires { ⌜ (length (now homes) ≡ 512) × (length (now bodies) ≡ 512) × (3 ≤ fault → v < 512) ⌝ }
+    ensures { λ b. ⌜ b ≡ cond (ltb fault 3) 0 (cond (eqb fault 5) (getD (now (bodies .entry)) v 0) (getD (now (homes .entry)) v 0)) ⌝ }
+{
+    if fault < CLOSED {
+        return 0;
+    }
+    if fault == UNENDED {
+        return bodies[v as usize];
+    }
+    homes[v as usize]
+}
+
+fn by_name(
+    table: &[u32],
+    homes: &[u32; 512],
+    bodies: &[u32; 512],
+    stack: [[u32; 3]; 8],
+    d: usize,
+    n: u32,
+    r: u32,
+) -> Clause
+    requires { ⌜ (r < n) × (n ≡ size (now table)) × Noted (now table) r (now homes) (now bodies) stack d ⌝ }
+    ensures { λ c. ⌜ (c .number ≡ 7) × (c .row ≡ r) × (detail (c .fault) (c .word) (c .body) (c .args) (c .nexts) ≡ nameDetail (now (table .entry)) r) ⌝ }
+{
+    let k = hidden_word(table, homes, bodies, stack, d, n, r);
+    let v = word_at(table, r, k);
+    let fault = sight(table, homes, bodies, stack, d, n, r, v);
+    by_word(NAME, r, fault, k, hidden_body(homes, bodies, fault, v))
+}
+
+fn by_type(table: &[u32], n: u32, r: u32) -> Clause
+    requires { ⌜ (r < n) × (n ≤ 512) × (length (now table) ≡ 6 * n) ⌝ }
+    ensures { λ c. ⌜ (c .number ≡ 8) × (c .row ≡ r) × (detail (c .fault) (c .word) (c .body) (c .args) (c .nexts) ≡ detail (wantedSort (kindOf (now (table .entry)) r) (mistypedWord (now (table .entry)) r)) (mistypedWord (now (table .entry)) r) 0 0 0) ⌝ }
+{
+    let k = mistyped_word(table, n, r);
+    by_word(TYPE, r, wanted_sort(kind_at(table, r), k), k, 0)
+}
+
+// The clause of row r that a refusal's number is about.
+fn row_clause(
+    table: &[u32],
+    homes: &[u32; 512],
+    bodies: &[u32; 512],
+    stack: [[u32; 3]; 8],
+    d: usize,
+    n: u32,
+    r: u32,
+    number: u32,
+) -> Clause
+    requires { ⌜ (r < n) × (length (now table) ≡ 6 * n) × (number ≡ rowRefusal (now table) r) × Noted (now table) r (now homes) (now bodies) stack d ⌝ }
+    ensures { λ c. ⌜ (c .number ≡ number) × (c .row ≡ r) × (detail (c .fault) (c .word) (c .body) (c .args) (c .nexts) ≡ explained (now (table .entry)) number r) ⌝ }
+{
+    match number {
+        SPARE => by_word(SPARE, r, 0, spare_word(table, r), 0),
+        CODE => by_word(CODE, r, 0, code_word(table, r), 0),
+        PLACE => by_loop(PLACE, r, place_fault(table, stack, d, r), n, stack, d),
+        DEPTH => by_loop(DEPTH, r, 0, n, stack, d),
+        NAME => by_name(table, homes, bodies, stack, d, n, r),
+        TYPE => by_type(table, n, r),
+        _ => by_word(number, r, 0, 0, 0),
+    }
+}
+
+fn open_clause(n: u32, stack: [[u32; 3]; 8], d: usize) -> Clause
+    requires { ⌜ d ≤ 8 ⌝ }
+    ensures { λ c. ⌜ (c .number ≡ 9) × (c .row ≡ n) × (detail (c .fault) (c .word) (c .body) (c .args) (c .nexts) ≡ detail (cond (outside (openLoops stack d)) 2 1) 0 (inner n (openLoops stack d)) (argsIn (openLoops stack d)) (nextsIn (openLoops stack d))) ⌝ }
+{
+    if d == 0 {
+        return by_loop(OPEN, n, OUTLESS, n, stack, d);
+    }
+    by_loop(OPEN, n, UNCLOSED, n, stack, d)
+}
+
+fn rows_told(table: &[u32], n: u32) -> Clause
     requires { ⌜ (length (now table) ≡ 6 * n) × (n ≤ 512) ⌝ }
-    ensures { λ r. ⌜ answer (r .number) (r .row) ≡ rowsFrom n (now (table .entry)) 0 ⌝ }
+    ensures { λ c. ⌜ (answer (c .number) (c .row) ≡ rowsFrom n (now (table .entry)) 0) × (detail (c .fault) (c .word) (c .body) (c .args) (c .nexts) ≡ explained (now (table .entry)) (c .number) (c .row)) ⌝ }
 {
     let mut homes = [0u32; 512];
     let mut bodies = [0u32; 512];
@@ -516,7 +700,7 @@ fn rows_checked(table: &[u32], n: u32) -> Checked
     while i < n {
         let number = row_refusal(table, &homes, &bodies, stack, d, n, i);
         if number != 0 {
-            return Checked { number, row: i };
+            return row_clause(table, &homes, &bodies, stack, d, n, i, number);
         }
         let kind = kind_at(table, i);
         homes[i as usize] = home_body(n, kind, i, stack, d);
@@ -527,36 +711,41 @@ fn rows_checked(table: &[u32], n: u32) -> Checked
         i += 1;
     }
     if end_right(table, d, n) {
-        return Checked { number: 0, row: 0 };
+        return by_word(0, 0, 0, 0, 0);
     }
-    Checked {
-        number: OPEN,
-        row: n,
+    open_clause(n, stack, d)
+}
+
+// The check of a table's rows, refusals 1 to 9, with the clause that is broken.
+pub fn tell_rows(table: &[u32]) -> Clause
+    ensures { λ c. ⌜ Told (now (table .entry)) (c .number) (c .row) (c .fault) (c .word) (c .body) (c .args) (c .nexts) ⌝ }
+{
+    let n = table.len() / 6;
+    if table.len() % 6 != 0 {
+        return by_word(LENGTH, 0, SPLIT_ROW, 0, 0);
     }
+    if n < 1 {
+        return by_word(LENGTH, 0, NO_ROW, 0, 0);
+    }
+    if n > 512 {
+        return by_word(LENGTH, 0, MANY_ROWS, 0, 0);
+    }
+    rows_told(table, n as u32)
+}
+
+// What a check answers: a refusal's number and row, or 0 and 0.
+pub struct Checked {
+    pub number: u32,
+    pub row: u32,
 }
 
 // The check of a table's rows: refusals 1 to 9.
 pub fn check_rows(table: &[u32]) -> Checked
     ensures { λ r. ⌜ answer (r .number) (r .row) ≡ tableRefusal (now (table .entry)) ⌝ }
 {
-    let n = table.len() / 6;
-    if table.len() % 6 != 0 {
-        return Checked {
-            number: LENGTH,
-            row: 0,
-        };
+    let told = tell_rows(table);
+    Checked {
+        number: told.number,
+        row: told.row,
     }
-    if n < 1 {
-        return Checked {
-            number: LENGTH,
-            row: 0,
-        };
-    }
-    if n > 512 {
-        return Checked {
-            number: LENGTH,
-            row: 0,
-        };
-    }
-    rows_checked(table, n as u32)
 }
