@@ -1,17 +1,25 @@
--- That the clause told is broken: each test of the check fails exactly where a word or a fault is told.
--- Main results: `spare-told`, `code-told`, `place-told`, `names-told`, `types-told`, `seen-told`.
+-- That the clause told is one that the table breaks.
+--
+--   Broken                      the clauses, one a line, in the words of the check's own tests
+--   told-clause-is-broken       what a refused table is told is one of them
+--   spare-told .. types-told    a test of the check fails exactly where a word or a fault is told
+--   one-telling                 a table is told in one way
+--
 -- Assumes nothing.
-use Prim.Native.Nat.{ℕ, zero, suc, _+_, _-_, _<_, _≤_}
+use Prim.Native.Nat.{ℕ, zero, suc, _+_, _-_, _%_, _<_, _≤_}
 use mathlib.Core.Bool.{Bool, true, false, cond, _&&_, _||_}
 use mathlib.Core.List.{List, [], _∷_}
-use mathlib.Core.Path.{_≡_, refl, sym, ap, _∙_}
+use mathlib.Core.Path.{_≡_, refl, sym, ap, ap₂, _∙_}
 use native.Mathlib.Omega.{arith}
-use borrow.Author.Tests.{ne-eqb}
+use native.Mathlib.Decide.{ℕ-discrete, decLt}
+use borrow.Author.Tests.{eq-eqb, ne-eqb, lt-ltb, le-ltb, le-leb, lt-leb, eqb-false, leb-false, ltb-false}
 use lib.Dec.{eqb, leb, ltb}
+use lib.ListN.{length}
 use Rattle.table.specs.Rows.{kindOf, word, size, CONST, OP, FOR, ARG, NEXT, END, OUT, usedWords, operandCount, firstOperand, sortOf, wantedSort}
 use Rattle.table.specs.Scan.{Loop, stackAt, readStack, home, bodyOpen, endPassed, visible}
-use Rattle.table.specs.Check.{zerosFrom, spareRight, codeRight, kindBefore, follows, argLeft, allServed, outside, stands, placeRight, namesFrom, namesRight, typesFrom, typesRight}
-use Rattle.table.specs.Clauses.{firstFrom, isZero, spareWord, codeWord, followsFault, nextFault, endFault, standsFault, placeFault, sight, isSeen, hiddenWord, isSorted, mistypedWord}
+use Rattle.table.specs.Bodies.{nextsIn}
+use Rattle.table.specs.Check.{LENGTH, KIND, SPARE, CODE, PLACE, DEPTH, NAME, TYPE, OPEN, zerosFrom, spareRight, codeRight, kindBefore, follows, argLeft, allServed, outside, stands, placeRight, lengthRight, kindRight, depthRight, endRight, orElse, rowRefusal, Refusal, answer, rowsFrom, tableRefusal, namesFrom, namesRight, typesFrom, typesRight}
+use Rattle.table.specs.Clauses.{argsIn, lengthFault, detail, loopDetail, nameDetail, explained, Told, firstFrom, isZero, spareWord, codeWord, followsFault, nextFault, endFault, standsFault, placeFault, sight, isSeen, hiddenWord, isSorted, mistypedWord}
 
 -- one word more: the first failing word is k itself, or a later one
 one-more : (b rest : Bool) (x k : ℕ) → 1 ≤ k → rest ≡ eqb x 0 → (b && rest) ≡ eqb (cond b x k) 0
@@ -130,3 +138,287 @@ names-told t r = names-first t r (operandCount (kindOf t r)) (firstOperand (kind
 pub types-told : (t : List ℕ) (r : ℕ) → typesRight t r ≡ eqb (mistypedWord t r) 0
 unfolding typesRight mistypedWord
 types-told t r = types-first t r (operandCount (kindOf t r)) (firstOperand (kindOf t r)) (operand-stands (kindOf t r))
+
+-- ---- what each fault says
+
+-- a row of this kind behind one of that kind
+pub data Behind (before kind fault : ℕ) : Type 0 where
+  behind-out : fault ≡ 1 → before ≡ OUT → (kind ≡ OUT → ⊥) → Behind before kind fault
+  behind-next : fault ≡ 2 → before ≡ NEXT → (kind ≡ NEXT → ⊥) → (kind ≡ END → ⊥) → Behind before kind fault
+  late-start : fault ≡ 3 → kind ≤ CONST → CONST < before → Behind before kind fault
+  late-arg : fault ≡ 4 → kind ≡ ARG → (before ≡ FOR → ⊥) → (before ≡ ARG → ⊥) → Behind before kind fault
+
+-- a row of this kind among the open loops
+pub data Among (kind : ℕ) (s : List Loop) (fault : ℕ) : Type 0 where
+  lone-next : fault ≡ 5 → kind ≡ NEXT → s ≡ [] → Among kind s fault
+  many-nexts : fault ≡ 6 → kind ≡ NEXT → outside s ≡ false → argsIn s ≤ nextsIn s → Among kind s fault
+  lone-end : fault ≡ 7 → kind ≡ END → s ≡ [] → Among kind s fault
+  early-end : fault ≡ 8 → kind ≡ END → outside s ≡ false → (nextsIn s ≡ argsIn s → ⊥) → Among kind s fault
+  inner-out : fault ≡ 9 → kind ≡ OUT → outside s ≡ false → Among kind s fault
+
+-- value v named in row r
+pub data Hidden (t : List ℕ) (r v fault : ℕ) : Type 0 where
+  later : fault ≡ 1 → r ≤ v → Hidden t r v fault
+  valueless : fault ≡ 2 → v < r → NEXT < kindOf t v → Hidden t r v fault
+  closed : fault ≡ 3 → v < r → bodyOpen (size t) (home t v) (stackAt t r) ≡ false → Hidden t r v fault
+  entered : fault ≡ 4 → v < r → bodyOpen (size t) (home t v) (readStack t r) ≡ false → bodyOpen (size t) (home t v) (stackAt t r) ≡ true → Hidden t r v fault
+  unended : fault ≡ 5 → v < r → endPassed t r v ≡ false → Hidden t r v fault
+
+-- word k of row r names a value
+abbrev pub Operand : List ℕ → ℕ → ℕ → Type 0
+Operand t r k = (firstOperand (kindOf t r) ≤ k) × (k < firstOperand (kindOf t r) + operandCount (kindOf t r))
+
+-- THE CLAUSES
+pub data Broken (t : List ℕ) (number r fault k : ℕ) : Type 0 where
+  split-row : number ≡ LENGTH → fault ≡ 1 → (length t % 6 ≡ 0 → ⊥) → Broken t number r fault k
+  no-row : number ≡ LENGTH → fault ≡ 2 → size t < 1 → Broken t number r fault k
+  many-rows : number ≡ LENGTH → fault ≡ 3 → 512 < size t → Broken t number r fault k
+  no-kind : number ≡ KIND → OUT < kindOf t r → Broken t number r fault k
+  spare-word : number ≡ SPARE → usedWords (kindOf t r) < k → k ≤ 5 → (word t r k ≡ 0 → ⊥) → Broken t number r fault k
+  operator : number ≡ CODE → kindOf t r ≡ OP → k ≡ 1 → 7 < word t r k → Broken t number r fault k
+  update : number ≡ CODE → kindOf t r ≡ FOR → k ≡ 4 → 5 < word t r k → Broken t number r fault k
+  condition : number ≡ CODE → kindOf t r ≡ FOR → k ≡ 5 → 4 < word t r k → Broken t number r fault k
+  place-behind : number ≡ PLACE → Behind (kindBefore t r) (kindOf t r) fault → Broken t number r fault k
+  place-among : number ≡ PLACE → Among (kindOf t r) (stackAt t r) fault → Broken t number r fault k
+  nine-deep : number ≡ DEPTH → kindOf t r ≡ FOR → 8 ≤ length (stackAt t r) → Broken t number r fault k
+  hidden-name : number ≡ NAME → Operand t r k → Hidden t r (word t r k) fault → Broken t number r fault k
+  wrong-sort : number ≡ TYPE → Operand t r k → fault ≡ wantedSort (kindOf t r) k → (sortOf t (word t r k) ≡ fault → ⊥) → Broken t number r fault k
+  loop-open : number ≡ OPEN → r ≡ size t → fault ≡ 1 → outside (stackAt t r) ≡ false → Broken t number r fault k
+  no-out : number ≡ OPEN → r ≡ size t → fault ≡ 2 → outside (stackAt t r) ≡ true → (kindBefore t r ≡ OUT → ⊥) → Broken t number r fault k
+
+-- ---- that they are told
+
+follows-says : (b k : ℕ) → (followsFault b k ≡ 0 → ⊥) → Behind b k (followsFault b k)
+unfolding followsFault
+follows-says b k n =
+    elim (ℕ-discrete b OUT) [
+      | yes o ↦ elim (ℕ-discrete k OUT) [ yes e ↦ absurd (n (rw (eq-eqb b OUT o, eq-eqb k OUT e))) | no e ↦ behind-out (rw (eq-eqb b OUT o, ne-eqb k OUT e)) o e ]
+      | no o ↦ elim (ℕ-discrete b NEXT) [
+        | yes x ↦ elim (ℕ-discrete k NEXT) [
+          | yes e ↦ absurd (n (rw (ne-eqb b OUT o, eq-eqb b NEXT x, eq-eqb k NEXT e)))
+          | no e ↦ elim (ℕ-discrete k END) [
+            | yes d ↦ absurd (n (rw (ne-eqb b OUT o, eq-eqb b NEXT x, ne-eqb k NEXT e, eq-eqb k END d)))
+            | no d ↦ behind-next (rw (ne-eqb b OUT o, eq-eqb b NEXT x, ne-eqb k NEXT e, ne-eqb k END d)) x e d
+          ]
+        ]
+        | no x ↦ elim (decLt CONST k) [
+          | no s ↦ elim (decLt CONST b) [
+            | no a ↦ absurd (n (rw (ne-eqb b OUT o, ne-eqb b NEXT x, le-leb k CONST (omega arith), le-leb b CONST (omega arith))))
+            | yes a ↦ late-start (rw (ne-eqb b OUT o, ne-eqb b NEXT x, le-leb k CONST (omega arith), lt-leb b CONST a)) (omega arith) a
+          ]
+          | yes s ↦ elim (ℕ-discrete k ARG) [
+            | no a ↦ absurd (n (rw (ne-eqb b OUT o, ne-eqb b NEXT x, lt-leb k CONST s, ne-eqb k ARG a)))
+            | yes a ↦ elim (ℕ-discrete b FOR) [
+              | yes f ↦ absurd (n (rw (ne-eqb b OUT o, ne-eqb b NEXT x, lt-leb k CONST s, eq-eqb k ARG a, eq-eqb b FOR f)))
+              | no f ↦ elim (ℕ-discrete b ARG) [
+                | yes g ↦ absurd (n (rw (ne-eqb b OUT o, ne-eqb b NEXT x, lt-leb k CONST s, eq-eqb k ARG a, ne-eqb b FOR f, eq-eqb b ARG g)))
+                | no g ↦ late-arg (rw (ne-eqb b OUT o, ne-eqb b NEXT x, lt-leb k CONST s, eq-eqb k ARG a, ne-eqb b FOR f, ne-eqb b ARG g)) a f g
+              ]
+            ]
+          ]
+        ]
+      ]
+    ]
+
+stands-says : (k : ℕ) (s : List Loop) → (standsFault k s ≡ 0 → ⊥) → Among k s (standsFault k s)
+unfolding standsFault
+stands-says k s n =
+    elim (ℕ-discrete k NEXT) [
+      | yes x ↦ next s x n
+      | no x ↦ elim (ℕ-discrete k END) [
+        | yes e ↦ end s x e n
+        | no e ↦ elim (ℕ-discrete k OUT) [ yes o ↦ out s x e o n | no o ↦ absurd (n (rw (ne-eqb k NEXT x, ne-eqb k END e, ne-eqb k OUT o))) ]
+      ]
+    ]
+  where
+    next : (s : List Loop) → k ≡ NEXT → (standsFault k s ≡ 0 → ⊥) → Among k s (standsFault k s)
+    next [] x n = lone-next (rw x) x refl
+    next (l ∷ s) x n =
+        elim (decLt (l .nexts) (l .args)) [
+          | yes h ↦ absurd (n (rw (x, lt-ltb (l .nexts) (l .args) h)))
+          | no h ↦ many-nexts (rw (x, le-ltb (l .nexts) (l .args) (omega arith))) x refl (omega arith)
+        ]
+
+    end : (s : List Loop) → (k ≡ NEXT → ⊥) → k ≡ END → (standsFault k s ≡ 0 → ⊥) → Among k s (standsFault k s)
+    end [] x e n = lone-end (rw e) e refl
+    end (l ∷ s) x e n =
+        elim (ℕ-discrete (l .nexts) (l .args)) [
+          | yes h ↦ absurd (n (rw (e, eq-eqb (l .nexts) (l .args) h)))
+          | no h ↦ early-end (rw (e, ne-eqb (l .nexts) (l .args) h)) e refl h
+        ]
+
+    out : (s : List Loop) → (k ≡ NEXT → ⊥) → (k ≡ END → ⊥) → k ≡ OUT → (standsFault k s ≡ 0 → ⊥) → Among k s (standsFault k s)
+    out [] x e o n = absurd (n (rw o))
+    out (l ∷ s) x e o n = inner-out (rw o) o refl
+
+sight-says : (t : List ℕ) (r v : ℕ) → (sight t r v ≡ 0 → ⊥) → Hidden t r v (sight t r v)
+unfolding sight
+sight-says t r v n =
+    elim (decLt v r) [
+      | no l ↦ later (rw (le-ltb v r (omega arith))) (omega arith)
+      | yes l ↦ elim (decLt NEXT (kindOf t v)) [
+        | yes q ↦ valueless (rw (lt-ltb v r l, lt-leb (kindOf t v) NEXT q)) l q
+        | no q ↦ loops (bodyOpen (size t) (home t v) (readStack t r)) (endPassed t r v) (bodyOpen (size t) (home t v) (stackAt t r)) l (omega arith) refl refl refl
+      ]
+    ]
+  where
+    loops : (c d e : Bool) → v < r → kindOf t v ≤ NEXT → bodyOpen (size t) (home t v) (readStack t r) ≡ c → endPassed t r v ≡ d → bodyOpen (size t) (home t v) (stackAt t r) ≡ e
+        → Hidden t r v (sight t r v)
+    loops true true e l q ec ed ee = absurd (n (rw (lt-ltb v r l, le-leb (kindOf t v) NEXT q, ec, ed)))
+    loops true false e l q ec ed ee = unended (rw (lt-ltb v r l, le-leb (kindOf t v) NEXT q, ec, ed)) l ed
+    loops false d true l q ec ed ee = entered (rw (lt-ltb v r l, le-leb (kindOf t v) NEXT q, ec, ee)) l ec ee
+    loops false d false l q ec ed ee = closed (rw (lt-ltb v r l, le-leb (kindOf t v) NEXT q, ec, ee)) l ee
+
+-- the word that is told fails its test
+first-fails : (p : ℕ → Bool) (m k : ℕ) → (firstFrom p m k ≡ 0 → ⊥) → (p (firstFrom p m k) ≡ false) × (k ≤ firstFrom p m k) × (firstFrom p m k < k + m)
+unfolding firstFrom
+first-fails p zero k n = absurd (n refl)
+first-fails p (suc m) k n = step (p k) refl (first-fails p m (k + 1)) n
+  where
+    step : {x : ℕ} (b : Bool) → p k ≡ b → ((x ≡ 0 → ⊥) → (p x ≡ false) × (k + 1 ≤ x) × (x < k + 1 + m)) → (cond b x k ≡ 0 → ⊥)
+        → (p (cond b x k) ≡ false) × (k ≤ cond b x k) × (cond b x k < k + suc m)
+    step true e ih n = let h = ih n in (h .0, omega arith, omega arith)
+    step false e ih n = (e, omega arith, omega arith)
+
+-- a test that fails, and what is told by it
+fails : {b : Bool} {x : ℕ} → b ≡ eqb x 0 → b ≡ false → x ≡ 0 → ⊥
+fails {b} {x} e f = eqb-false x 0 (sym e ∙ f)
+
+length-says : (t : List ℕ) → lengthRight t ≡ false → Broken t LENGTH 0 (lengthFault t) 0
+unfolding lengthRight lengthFault
+length-says t f =
+    elim (ℕ-discrete (length t % 6) 0) [
+      | no s ↦ split-row refl (rw (ne-eqb (length t % 6) 0 s)) s
+      | yes s ↦ elim (decLt (size t) 1) [
+        | yes z ↦ no-row refl (rw (eq-eqb (length t % 6) 0 s, lt-leb 1 (size t) z)) z
+        | no z ↦ many-rows refl (rw (eq-eqb (length t % 6) 0 s, le-leb 1 (size t) (omega arith)))
+            (leb-false (size t) 512 (rw (eq-eqb (length t % 6) 0 s, le-leb 1 (size t) (omega arith)) at f))
+      ]
+    ]
+
+spare-says : (t : List ℕ) (r : ℕ) → spareRight t r ≡ false → Broken t SPARE r 0 (spareWord t r)
+unfolding spareWord
+spare-says t r f =
+    let h = first-fails (isZero t r) (5 - usedWords (kindOf t r)) (usedWords (kindOf t r) + 1) (fails (spare-told t r) f) in
+    spare-word refl (omega arith) (omega arith) (eqb-false _ 0 (h .0))
+
+code-says : (t : List ℕ) (r : ℕ) → codeRight t r ≡ false → Broken t CODE r 0 (codeWord t r)
+unfolding codeWord
+code-says t r f = let n = fails {x = codeWord t r} (code-told t r) f in
+    elim (ℕ-discrete (kindOf t r) OP) [
+      | yes o ↦ elim (decLt 7 (word t r 1)) [
+        | yes l ↦ let e : codeWord t r ≡ 1 = rw (eq-eqb (kindOf t r) OP o, lt-leb (word t r 1) 7 l) in operator refl o e (rw e l)
+        | no l ↦ absurd (n (rw (eq-eqb (kindOf t r) OP o, le-leb (word t r 1) 7 (omega arith))))
+      ]
+      | no o ↦ elim (ℕ-discrete (kindOf t r) FOR) [
+        | no x ↦ absurd (n (rw (ne-eqb (kindOf t r) OP o, ne-eqb (kindOf t r) FOR x)))
+        | yes x ↦ elim (decLt 5 (word t r 4)) [
+          | yes l ↦ let e : codeWord t r ≡ 4 = rw (ne-eqb (kindOf t r) OP o, eq-eqb (kindOf t r) FOR x, lt-leb (word t r 4) 5 l) in update refl x e (rw e l)
+          | no l ↦ elim (decLt 4 (word t r 5)) [
+            | yes m ↦ let e : codeWord t r ≡ 5 = rw (ne-eqb (kindOf t r) OP o, eq-eqb (kindOf t r) FOR x, le-leb (word t r 4) 5 (omega arith), lt-leb (word t r 5) 4 m) in
+                condition refl x e (rw e m)
+            | no m ↦ absurd (n (rw (ne-eqb (kindOf t r) OP o, eq-eqb (kindOf t r) FOR x, le-leb (word t r 4) 5 (omega arith), le-leb (word t r 5) 4 (omega arith))))
+          ]
+        ]
+      ]
+    ]
+
+place-says : (t : List ℕ) (r : ℕ) → placeRight t r ≡ false → Broken t PLACE r (placeFault t r) 0
+unfolding placeFault
+place-says t r f = let n = fails {x = placeFault t r} (place-told t r) f in
+    elim (ℕ-discrete (followsFault (kindBefore t r) (kindOf t r)) 0) [
+      | yes z ↦ let e : placeFault t r ≡ standsFault (kindOf t r) (stackAt t r) = rw (eq-eqb _ 0 z) in
+          rw e (place-among refl (stands-says (kindOf t r) (stackAt t r) (λ q. n (e ∙ q))))
+      | no z ↦ let e : placeFault t r ≡ followsFault (kindBefore t r) (kindOf t r) = rw (ne-eqb _ 0 z) in
+          rw e (place-behind refl (follows-says (kindBefore t r) (kindOf t r) z))
+    ]
+
+depth-says : (t : List ℕ) (r : ℕ) → depthRight t r ≡ false → Broken t DEPTH r 0 0
+unfolding depthRight
+depth-says t r f =
+    elim (ℕ-discrete (kindOf t r) FOR) [
+      | yes x ↦ nine-deep refl x (ltb-false (length (stackAt t r)) 8 (rw (eq-eqb (kindOf t r) FOR x) at f))
+      | no x ↦ let z : true ≡ false = rw (ne-eqb (kindOf t r) FOR x) at f in let y : _≡_ {A = ℕ} 0 1 = ap (λ b. cond b 0 1) z in absurd (omega arith)
+    ]
+
+name-says : (t : List ℕ) (r : ℕ) → namesRight t r ≡ false → Broken t NAME r (sight t r (word t r (hiddenWord t r))) (hiddenWord t r)
+unfolding hiddenWord
+name-says t r f =
+    let h = first-fails (isSeen t r) (operandCount (kindOf t r)) (firstOperand (kindOf t r)) (fails (names-told t r) f) in
+    hidden-name refl (h .1, h .2) (sight-says t r _ (eqb-false _ 0 (h .0)))
+
+type-says : (t : List ℕ) (r : ℕ) → typesRight t r ≡ false → Broken t TYPE r (wantedSort (kindOf t r) (mistypedWord t r)) (mistypedWord t r)
+unfolding mistypedWord
+type-says t r f =
+    let h = first-fails (isSorted t r) (operandCount (kindOf t r)) (firstOperand (kindOf t r)) (fails (types-told t r) f) in
+    wrong-sort refl (h .1, h .2) refl (eqb-false _ _ (h .0))
+
+open-says : (t : List ℕ) → endRight t ≡ false → Broken t OPEN (size t) (cond (outside (stackAt t (size t))) 2 1) 0
+unfolding endRight
+open-says t f = go (outside (stackAt t (size t))) refl f
+  where
+    go : (b : Bool) → outside (stackAt t (size t)) ≡ b → (b && eqb (kindBefore t (size t)) OUT) ≡ false → Broken t OPEN (size t) (cond b 2 1) 0
+    go true e f = no-out refl refl refl e (eqb-false _ OUT f)
+    go false e f = loop-open refl refl refl e
+
+kind-says : (t : List ℕ) (r : ℕ) → kindRight t r ≡ false → OUT < kindOf t r
+unfolding kindRight
+kind-says t r f = leb-false (kindOf t r) OUT f
+
+-- a refused row
+row-says : (t : List ℕ) (r x : ℕ) → x ≡ rowRefusal t r → (x ≡ 0 → ⊥) → Broken t x r (explained t x r .fault) (explained t x r .word)
+unfolding rowRefusal explained loopDetail nameDetail
+row-says t r x q n =
+    go (kindRight t r) (spareRight t r) (codeRight t r) (placeRight t r) (depthRight t r) (namesRight t r) (typesRight t r) refl refl refl refl refl refl refl q
+  where
+    go : (b2 b3 b4 b5 b6 b7 b8 : Bool) → kindRight t r ≡ b2 → spareRight t r ≡ b3 → codeRight t r ≡ b4 → placeRight t r ≡ b5 → depthRight t r ≡ b6 → namesRight t r ≡ b7 → typesRight t r ≡ b8
+        → x ≡ orElse b2 2 (orElse b3 3 (orElse b4 4 (orElse b5 5 (orElse b6 6 (orElse b7 7 (orElse b8 8 0))))))
+        → Broken t x r (explained t x r .fault) (explained t x r .word)
+    go false b3 b4 b5 b6 b7 b8 e2 e3 e4 e5 e6 e7 e8 q = no-kind q (kind-says t r e2)
+    go true false b4 b5 b6 b7 b8 e2 e3 e4 e5 e6 e7 e8 q = rw q (spare-says t r e3)
+    go true true false b5 b6 b7 b8 e2 e3 e4 e5 e6 e7 e8 q = rw q (code-says t r e4)
+    go true true true false b6 b7 b8 e2 e3 e4 e5 e6 e7 e8 q = rw q (place-says t r e5)
+    go true true true true false b7 b8 e2 e3 e4 e5 e6 e7 e8 q = rw q (depth-says t r e6)
+    go true true true true true false b8 e2 e3 e4 e5 e6 e7 e8 q = rw q (name-says t r e7)
+    go true true true true true true false e2 e3 e4 e5 e6 e7 e8 q = rw q (type-says t r e8)
+    go true true true true true true true e2 e3 e4 e5 e6 e7 e8 q = absurd (n q)
+
+abbrev number-of : Refusal → ℕ
+number-of x = x .number
+
+abbrev row-of : Refusal → ℕ
+row-of x = x .row
+
+-- the rows from r0 on: the first that is refused, or the table's end
+rows-say : (t : List ℕ) (m r0 number r : ℕ) → r0 + m ≡ size t → answer number r ≡ rowsFrom m t r0 → (number ≡ 0 → ⊥)
+    → Broken t number r (explained t number r .fault) (explained t number r .word)
+unfolding rowsFrom explained loopDetail
+rows-say t zero r0 number r s e n = last (endRight t) refl e
+  where
+    last : (b : Bool) → endRight t ≡ b → answer number r ≡ cond b (answer 0 0) (answer OPEN r0) → Broken t number r (explained t number r .fault) (explained t number r .word)
+    last true h e = absurd (n (ap number-of e))
+    last false h e = let k : number ≡ OPEN = ap number-of e in let i : r ≡ size t = ap row-of e ∙ (omega arith) in rw (k, i) (open-says t h)
+rows-say t (suc m) r0 number r s e n =
+    elim (ℕ-discrete (rowRefusal t r0) 0) [
+      | yes z ↦ rows-say t m (r0 + 1) number r (omega arith) (rw (eq-eqb _ 0 z) at e) n
+      | no z ↦ let f = rw (ne-eqb _ 0 z) at e in let i : r ≡ r0 = ap row-of f in rw i (row-says t r0 number (ap number-of f) n)
+    ]
+
+table-says : (t : List ℕ) (number r : ℕ) → answer number r ≡ tableRefusal t → (number ≡ 0 → ⊥) → Broken t number r (explained t number r .fault) (explained t number r .word)
+unfolding tableRefusal explained
+table-says t number r e n = go (lengthRight t) refl e
+  where
+    go : (b : Bool) → lengthRight t ≡ b → answer number r ≡ cond b (rowsFrom (size t) t 0) (answer LENGTH 0) → Broken t number r (explained t number r .fault) (explained t number r .word)
+    go true h e = rows-say t (size t) 0 number r (omega arith) e n
+    go false h e = let k : number ≡ LENGTH = ap number-of e in let i : r ≡ 0 = ap row-of e in rw (k, i) (length-says t h)
+
+-- WHAT A REFUSED TABLE IS TOLD IS A CLAUSE THAT IT BREAKS
+pub told-clause-is-broken : (t : List ℕ) (number r f w b a x : ℕ) → Told t number r f w b a x → (number ≡ 0 → ⊥) → Broken t number r f w
+told-clause-is-broken t number r f w b a x T n =
+    rw (ap (λ d. d .fault) (T .clause), ap (λ d. d .word) (T .clause)) (table-says t number r (T .refusal) n)
+
+-- A TABLE IS TOLD IN ONE WAY
+pub one-telling : {t : List ℕ} {n r f w b a x m s g v c d y : ℕ} → Told t n r f w b a x → Told t m s g v c d y → (answer n r ≡ answer m s) × (detail f w b a x ≡ detail g v c d y)
+one-telling {t} T U =
+    let q = T .refusal ∙ sym (U .refusal) in
+    (q, T .clause ∙ ap₂ (explained t) (ap number-of q) (ap row-of q) ∙ sym (U .clause))

@@ -7,4 +7,5 @@ pub mod Clauses
 pub mod Broken
 pub mod Kept
 pub mod Right
+pub mod Nexts
 pub mod Cases
