@@ -139,7 +139,7 @@ fn stand(x: u32, free: &[u32; 8192], uses: &[u32; 8192], seen: &mut [u32; 8192])
 }
 
 // Words written one after another.
-fn three(graph: &mut [u32], at: usize, a: u32, b: u32, c: u32)
+pub fn three(graph: &mut [u32], at: usize, a: u32, b: u32, c: u32)
     requires { ⌜ at + 3 ≤ length (now graph) ⌝ }
     ensures { λ r. ⌜ now (graph .exit) ≡ sets (now (graph .entry)) at (a ∷ b ∷ c ∷ []) ⌝ }
 {

@@ -31,12 +31,12 @@ seven l l₁ l₂ l₃ l₄ l₅ l₆ l₇ p k c s a b d f e₁ e₂ e₃ e₄ e
     (one-put l₂ _ l₃ (suc (suc p)) (p + 2) s
     (one-put l₁ _ l₂ (suc p) (p + 1) c e₁ e₂ (omega arith)) e₃ (omega arith)) e₄ (omega arith)) e₅ (omega arith)) e₆ (omega arith)) e₇ (omega arith)
 
-sets-other : (vs l : List ℕ) (i j : ℕ) → (j < i) ⊎ (i + length vs ≤ j) → getD (sets l i vs) j 0 ≡ getD l j 0
+pub sets-other : (vs l : List ℕ) (i j : ℕ) → (j < i) ⊎ (i + length vs ≤ j) → getD (sets l i vs) j 0 ≡ getD l j 0
 sets-other [] l i j h = refl
 sets-other (a ∷ vs) l i j (inl h) = sets-other vs (set l i a) (suc i) j (inl (omega arith)) ∙ getD-set-other l i j a 0 (λ e. omega arith)
 sets-other (a ∷ vs) l i j (inr h) = sets-other vs (set l i a) (suc i) j (inr (omega arith)) ∙ getD-set-other l i j a 0 (λ e. omega arith)
 
-sets-in : (vs l : List ℕ) (i k : ℕ) → k < length vs → i + length vs ≤ length l → getD (sets l i vs) (i + k) 0 ≡ getD vs k 0
+pub sets-in : (vs l : List ℕ) (i k : ℕ) → k < length vs → i + length vs ≤ length l → getD (sets l i vs) (i + k) 0 ≡ getD vs k 0
 sets-in [] l i k h r = absurd (omega arith)
 sets-in (a ∷ vs) l i zero h r =
     let z : i + 0 ≡ i = omega arith in

@@ -11,19 +11,14 @@ use lib.ListN.{length}
 use lib.Seq.{sets}
 use Rattle.table.specs.Rows.{size}
 use Rattle.table.specs.Check.{Refusal, answer, tableRefusal}
-use Rattle.table.specs.Right.{number-0-is-right, right-table-passes}
-use Rattle.structure.specs.Structure.{Structure, passing-table-has-structure}
 use Rattle.lowered.specs.Lower.{loweredWords}
 use Rattle.lowered.specs.Room.{hasRoom, fitsInto, refusedBy, checkAnswer, lowerRefusal, lowerAnswer, lentAfter}
 use Rattle.laid.specs.Words.{words-long}
-use Rattle.carrying.specs.Kept.{Passing}
-use Rattle.lowering.specs.Ready.{Counted}
+use Rattle.measuring.specs.Passed.{number-is}
+use Rattle.measuring.specs.Ready.{Counted}
 use Rattle.lowering.specs.Answers.{LowerAnswer}
 
 -- ---- a table that passes 1 to 9
-
-pub structure-of : (t : List ℕ) (n : ℕ) → Passing t n → Structure t
-structure-of t n P = passing-table-has-structure t (right-table-passes t (P .right))
 
 -- how many words are written
 pub words-are : (t : List ℕ) {P W N A S R s r n : ℕ} → Counted t P W N A S R → s ≡ S → r ≡ R → n ≡ N → 4 + 2 * s + r + 7 * n ≡ length (loweredWords t)
@@ -44,22 +39,13 @@ on true e = refl
 on false e = sym e
 
 module _ (t : List ℕ) {k r : ℕ} (e : answer k r ≡ tableRefusal t) where
-  number-is : tableRefusal t .number ≡ k
-  number-is = ap (λ (a : Refusal). a .number) (sym e)
-
-  pub few-rows : k ≡ 0 → size t ≤ 512
-  few-rows z = let R = number-0-is-right t (number-is ∙ z) in passing-table-has-structure t (right-table-passes t R) .few
-
-  pub passing : {n : ℕ} → k ≡ 0 → n ≡ size t → Passing t n
-  passing {n} z h = let f = few-rows z in record { right = number-0-is-right t (number-is ∙ z); rows = h; few = omega arith }
-
   refused-by : (room : Bool) → (k ≡ 0 → ⊥) → answer k r ≡ refusedBy t room
   unfolding refusedBy
-  refused-by room n = rw (ne-eqb (tableRefusal t .number) 0 (λ q. n (sym number-is ∙ q))) e
+  refused-by room n = rw (ne-eqb (tableRefusal t .number) 0 (λ q. n (sym (number-is t e) ∙ q))) e
 
   passed-by : (room : Bool) → k ≡ 0 → refusedBy t room ≡ cond room (answer 0 0) (answer 10 (size t))
   unfolding refusedBy
-  passed-by room z = rw (number-is, z)
+  passed-by room z = rw (number-is t e, z)
 
   -- ---- check_table
 

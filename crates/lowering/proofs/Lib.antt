@@ -1,4 +1,3 @@
--- The laws that the proofs of the functions share: the counts (`Counting`), the whole graph (`Whole`), the entries' answers (`Answers`).
-pub mod Counting
+-- The laws that the proofs of the functions share: the whole graph (`Whole`), the entries' answers (`Answers`).
 pub mod Whole
 pub mod Answers

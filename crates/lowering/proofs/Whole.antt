@@ -16,7 +16,7 @@ use Rattle.forking.specs.Tallied.{tallied, none-tallied}
 use Rattle.forking.specs.Forked.{nodesBy, forkWordsBy}
 use Rattle.forking.specs.Written.{rowInputs, rowWords, outWords, sets-append, joined-long}
 use Rattle.forking.specs.Sorted.{sortedRows, sorts-of}
-use Rattle.lowering.specs.Ready.{starts-few, starts-are-rows, results-few, node-total-of, Counted, Ready, ready-results, ready-rows, ready-forks}
+use Rattle.measuring.specs.Ready.{starts-few, starts-are-rows, results-few, node-total-of, Counted, Ready, ready-results, ready-rows, ready-forks}
 use Rattle.forking.proofs.Words.{starts-long}
 
 -- the room that the parts need

@@ -1,3 +1,2 @@
--- What the entries for tables keep and answer.
-pub mod Ready
+-- What lowering answers.
 pub mod Answers

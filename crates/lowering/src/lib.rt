@@ -1,87 +1,15 @@
 // The entries for tables: their check, and lowering into lent words.
 ghost use mathlib.Core.Path.{_≡_};
-ghost use mathlib.Core.Bool.{true, false};
 ghost use Prim.Native.Nat.{_≤_};
 ghost use lib.ListN.{length};
 ghost use lib.Seq.{sets};
 ghost use Rattle.table.specs.Check.{answer};
 ghost use Rattle.lowered.specs.Lower.{loweredWords};
 ghost use Rattle.lowered.specs.Room.{checkAnswer};
-ghost use Rattle.carrying.specs.Kept.{Passing};
-ghost use Rattle.forking.specs.Tallied.{Below};
-ghost use Rattle.lowering.specs.Ready.{Counted, Ready, Measured};
+ghost use Rattle.measuring.specs.Ready.{Counted, Ready};
 ghost use Rattle.lowering.specs.Answers.{LowerAnswer};
 
 const ROOM: u32 = 10;
-
-const MOST_NODES: u32 = 4096;
-
-const MOST_WIRES: u32 = 8192;
-
-// The counts of a table's graph, and whether they are in their limits: `plain` nodes and `sources`, their wires, before forks; `nodes` and
-// `wires` with them.
-struct Sizes {
-    plain: u32,
-    sources: u32,
-    nodes: u32,
-    wires: u32,
-    starts: u32,
-    results: u32,
-    room: bool,
-}
-
-fn no_room() -> Sizes
-    ensures { λ r. ⌜ r .room ≡ false ⌝ }
-{
-    Sizes {
-        plain: 0,
-        sources: 0,
-        nodes: 0,
-        wires: 0,
-        starts: 0,
-        results: 0,
-        room: false,
-    }
-}
-
-// Lays a table's nodes down and counts everything, before a word is written. A table over a limit before forks is over it with them.
-fn measure(
-    table: &[u32],
-    n: u32,
-    rows: &mut [u32; 28672],
-    outs: &mut [u32; 512],
-    uses: &mut [u32; 8192],
-    free: &mut [u32; 8192],
-) -> Sizes
-    requires { ⌜ Passing (now table) n × (length (now rows) ≡ 28672) × (length (now outs) ≡ 512) × Below 0 (now uses) × Below 0 (now free) ⌝ }
-    ensures { λ r. ⌜ Measured (now (table .entry)) (now (rows .exit)) (now (outs .exit)) (now (uses .exit)) (now (free .exit)) (r .plain) (r .sources) (r .nodes) (r .wires) (r .starts) (r .results) (r .room) ⌝ }
-{
-    let laid = laying::lay(table, n, rows, outs);
-    if MOST_NODES < laid.nodes {
-        return no_room();
-    }
-    if MOST_WIRES < laid.wires {
-        return no_room();
-    }
-    let plain = graph::wide(laid.nodes);
-    let results = graph::wide(laid.results);
-    let added = forking::count_uses(rows, plain, outs, results, laid.wires, uses, free);
-    if MOST_NODES < laid.nodes + added.nodes {
-        return no_room();
-    }
-    if MOST_WIRES < laid.wires + added.wires {
-        return no_room();
-    }
-    Sizes {
-        plain: laid.nodes,
-        sources: laid.wires,
-        nodes: laid.nodes + added.nodes,
-        wires: laid.wires + added.wires,
-        starts: laid.starts,
-        results: laid.results,
-        room: true,
-    }
-}
 
 // The graph's words in their order. The uses are numbered by node first and by result last, so the results' legs need the nodes' tally.
 fn write_graph(
@@ -90,7 +18,7 @@ fn write_graph(
     outs: &[u32; 512],
     uses: &[u32; 8192],
     free: &[u32; 8192],
-    sizes: Sizes,
+    sizes: measuring::Sizes,
     graph: &mut [u32],
 )
     requires { ⌜ Ready (now table) (now rows) (now outs) (now uses) (now free) × Counted (now table) (sizes .plain) (sizes .sources) (sizes .nodes) (sizes .wires) (sizes .starts) (sizes .results) × (length (loweredWords (now table)) ≤ length (now graph)) ⌝ }
@@ -139,7 +67,7 @@ pub fn check_table(table: &[u32]) -> table::Checked
     let mut outs = [0u32; 512];
     let mut uses = [0u32; 8192];
     let mut free = [0u32; 8192];
-    let sizes = measure(table, n, &mut rows, &mut outs, &mut uses, &mut free);
+    let sizes = measuring::measure(table, n, &mut rows, &mut outs, &mut uses, &mut free);
     if sizes.room {
         return table::Checked { number: 0, row: 0 };
     }
@@ -173,7 +101,7 @@ pub fn lower(table: &[u32], graph: &mut [u32]) -> Lowered
     let mut outs = [0u32; 512];
     let mut uses = [0u32; 8192];
     let mut free = [0u32; 8192];
-    let sizes = measure(table, n, &mut rows, &mut outs, &mut uses, &mut free);
+    let sizes = measuring::measure(table, n, &mut rows, &mut outs, &mut uses, &mut free);
     if !sizes.room {
         return Lowered {
             number: ROOM,

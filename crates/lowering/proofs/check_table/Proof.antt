@@ -6,7 +6,8 @@ use native.Mathlib.Omega.{arith}
 use borrow.Author.Needs.{needs}
 use lib.ListN.{length-replicate}
 use Rattle.forking.specs.Tallied.{none-tallied}
-use Rattle.lowering.proofs.Answers.{few-rows, passing, check-refused, check-done, check-crowded}
+use Rattle.measuring.specs.Passed.{few-rows, passing}
+use Rattle.lowering.proofs.Answers.{check-refused, check-done, check-crowded}
 use Rattle.lowering.proofs.check_table.Statement.{statement}
 use Rattle.lowering.proofs.check_table.Tie as tie
 

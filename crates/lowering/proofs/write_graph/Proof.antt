@@ -5,7 +5,7 @@ use native.Mathlib.Omega.{arith}
 use borrow.Author.Needs.{needs}
 use lib.ListN.{length}
 use Rattle.graph.specs.Below.{joined}
-use Rattle.lowering.specs.Ready.{scratch-of}
+use Rattle.measuring.specs.Ready.{scratch-of}
 use Rattle.forking.specs.Sorted.{outputs-fit}
 use Rattle.forking.specs.Written.{rowInputs, joined-long}
 use Rattle.forking.specs.Tallied.{none-tallied}
