@@ -1,19 +1,19 @@
--- `rehearse::read_arguments` meets its contract: the inputs lie within the words lent. Assumes nothing.
+-- `arguments::read` meets its contract: the inputs lie within the words lent. Assumes nothing.
 use Prim.Native.Nat.{_≤_, _-_}
 use mathlib.Core.Path.{_≡_}
 use borrow.Author.Needs.{needs}
 use lib.ListN.{length}
-use Rattle.rehearse.proofs.read_arguments.Statement.{statement}
-use Rattle.rehearse.proofs.read_arguments.Tie as tie
+use Rattle.arguments.proofs.read.Statement.{statement}
+use Rattle.arguments.proofs.read.Tie as tie
 
 abbrev Inv-loop : tie.InvT-loop
-Inv-loop inputs₀ count asked₀ k₀ inputs asked k = (asked .inputs ≤ length inputs) × (length inputs ≡ length inputs₀)
+Inv-loop line inputs₀ last asked₀ k₀ inputs asked k = (asked .inputs ≤ length inputs) × (length inputs ≡ length inputs₀)
 
 abbrev μ-loop : tie.MeasureT-loop
-μ-loop inputs₀ count asked₀ k₀ inputs asked k = count - k
+μ-loop line inputs₀ last asked₀ k₀ inputs asked k = last - k
 
-arg-count-requires : tie.Need-arg-count-requires Inv-loop μ-loop
-arg-count-requires c κs = search needs
+count-requires : tie.Need-count-requires Inv-loop μ-loop
+count-requires c κs = search needs
 
 nothing-requires : tie.Need-nothing-requires Inv-loop μ-loop
 nothing-requires c κs = search needs
@@ -21,8 +21,11 @@ nothing-requires c κs = search needs
 loop-holds : tie.Need-loop-holds Inv-loop μ-loop
 loop-holds c = search needs
 
-read-argument-requires : tie.Need-read-argument-requires Inv-loop μ-loop
-read-argument-requires c κs = search needs
+argument-requires : tie.Need-argument-requires Inv-loop μ-loop
+argument-requires c κs = search needs
+
+take-requires : tie.Need-take-requires Inv-loop μ-loop
+take-requires c κs = search needs
 
 add-k : tie.Need-add-k Inv-loop μ-loop
 add-k c = search needs
@@ -42,16 +45,17 @@ same-length c = search needs
 returns : tie.Need-returns Inv-loop μ-loop
 returns c = search needs
 
-pub read-arguments-spec : {M : Type 1} → statement M
-read-arguments-spec =
+pub read-spec : {M : Type 1} → statement M
+read-spec =
     tie.close
     (tie.spec
     Inv-loop
     μ-loop
-    arg-count-requires
+    count-requires
     nothing-requires
     loop-holds
-    read-argument-requires
+    argument-requires
+    take-requires
     add-k
     loop-less
     loop-again
