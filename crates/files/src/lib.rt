@@ -32,20 +32,7 @@ const NO_READER: i32 = 32;
 
 const LONG_NAME: i32 = 36;
 
-fn positive(error: i32) -> u64 {
-    if 0 < error {
-        return error as u64;
-    }
-    0
-}
-
-fn put_other(out: &mut [u8], at: usize, error: i32) -> usize
-    requires { ⌜ at ≤ length (now out) ⌝ }
-    ensures { λ r. ⌜ r ≤ length (now (out .entry)) ⌝ }
-{
-    let n = text::put(out, at, b"the system's error");
-    text::put_next(out, n, positive(error))
-}
+const MANY_LINKS: i32 = 40;
 
 // Why a call failed, in words.
 fn put_trouble(out: &mut [u8], at: usize, error: i32) -> usize
@@ -62,8 +49,9 @@ fn put_trouble(out: &mut [u8], at: usize, error: i32) -> usize
         TOO_LARGE => text::put(out, at, b"the file grows too large"),
         NO_SPACE => text::put(out, at, b"no space is left on the device"),
         NO_READER => text::put(out, at, b"nobody reads it"),
+        MANY_LINKS => text::put(out, at, b"its path goes through too many links"),
         LONG_NAME => text::put(out, at, b"the name is too long"),
-        _ => put_other(out, at, error),
+        _ => text::put(out, at, b"the system refuses it"),
     }
 }
 
