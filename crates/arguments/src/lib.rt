@@ -1,6 +1,83 @@
 // What a command is asked: its arguments, read one by one. The table is the first that is no option; the others are input words, kept in lent words.
+// The arguments of a command stand in one text, each with a byte 0 behind it, which no argument can hold: so a command is the same whether it comes
+// from the system or from a file of cases. Argument 0 is the command's name.
 ghost use Prim.Native.Nat.{_≤_, _<_};
 ghost use lib.ListN.{length};
+
+// Arguments in a text.
+
+// How many arguments a text has.
+pub fn count(line: &[u8]) -> usize
+    ensures { λ r. ⌜ r ≤ length (now (line .entry)) ⌝ }
+{
+    let mut n: usize = 0;
+    let mut i: usize = 0;
+    while i < line.len() {
+        if line[i] == 0 {
+            n += 1;
+        }
+        i += 1;
+    }
+    n
+}
+
+// Where an argument that starts at `from` ends.
+fn end_of(line: &[u8], from: usize) -> usize
+    requires { ⌜ from ≤ length (now line) ⌝ }
+    ensures { λ r. ⌜ (from ≤ r) × (r ≤ length (now (line .entry))) ⌝ }
+{
+    let mut i = from;
+    while i < line.len() {
+        if line[i] == 0 {
+            return i;
+        }
+        i += 1;
+    }
+    i
+}
+
+// Where the argument behind the one that starts at `from` starts.
+fn behind(line: &[u8], from: usize) -> usize
+    requires { ⌜ from ≤ length (now line) ⌝ }
+    ensures { λ r. ⌜ r ≤ length (now (line .entry)) ⌝ }
+{
+    let e = end_of(line, from);
+    if e < line.len() {
+        return e + 1;
+    }
+    e
+}
+
+fn least(a: usize, b: usize) -> usize {
+    if a < b {
+        return a;
+    }
+    b
+}
+
+// Argument k, counted from 0; past the last, nothing.
+pub fn argument(line: &[u8], k: usize) -> &[u8] {
+    let most = least(k, line.len());
+    let mut at: usize = 0;
+    let mut i: usize = 0;
+    while i < most {
+        at = behind(line, at);
+        i += 1;
+    }
+    let e = end_of(line, at);
+    &line[at..e]
+}
+
+// Whether the usage is asked for: by no argument, or by --help in place of a command or behind one.
+pub fn asks_help(line: &[u8]) -> bool {
+    if line.len() == 0 {
+        return true;
+    }
+    if text::same(argument(line, 0), b"--help") {
+        return true;
+    }
+    text::same(argument(line, 1), b"--help")
+}
 
 // What an option waits for in the next argument.
 
@@ -26,11 +103,9 @@ pub const ALLOWANCE: u32 = 6;
 
 pub const ORDERS: u32 = 7;
 
-pub const LONG: u32 = 8;
+pub const ALONE: u32 = 8;
 
-pub const ALONE: u32 = 9;
-
-pub const TRACE: u32 = 10;
+pub const TRACE: u32 = 9;
 
 // The allowance where none is asked: more than any rehearsal of a station takes, and over in minutes.
 pub const USUAL: u64 = 1000000000;
@@ -50,7 +125,7 @@ pub struct Asked {
     pub at: usize,
 }
 
-pub fn nothing() -> Asked
+fn nothing() -> Asked
     ensures { λ r. ⌜ r .inputs ≤ 0 ⌝ }
 {
     Asked {
@@ -179,11 +254,22 @@ fn input(given: Asked, k: usize, arg: &[u8], inputs: &mut [u32]) -> Asked
     asked
 }
 
+// A number with a sign is no option: it is told as the input that it was meant to be.
 fn is_option(arg: &[u8]) -> bool {
-    if 0 < arg.len() {
-        return arg[0] == b'-';
+    if arg.len() < 2 {
+        return false;
+    }
+    if arg[0] == b'-' {
+        return !is_digit(arg[1]);
     }
     false
+}
+
+fn is_digit(b: u8) -> bool {
+    match b {
+        48..=57 => true,
+        _ => false,
+    }
 }
 
 // An argument that no option waits for.
@@ -201,7 +287,7 @@ fn plain(given: Asked, k: usize, arg: &[u8], inputs: &mut [u32]) -> Asked
 }
 
 // Argument k, which is not 0.
-pub fn take(given: Asked, k: usize, arg: &[u8], inputs: &mut [u32]) -> Asked
+fn take(given: Asked, k: usize, arg: &[u8], inputs: &mut [u32]) -> Asked
     requires { ⌜ given .inputs ≤ length (now inputs) ⌝ }
     ensures { λ r. ⌜ r .inputs ≤ length (now (inputs .entry)) ⌝ }
 {
@@ -213,8 +299,22 @@ pub fn take(given: Asked, k: usize, arg: &[u8], inputs: &mut [u32]) -> Asked
     }
 }
 
+// Every argument behind the command's name.
+pub fn read(line: &[u8], inputs: &mut [u32]) -> Asked
+    ensures { λ r. ⌜ r .inputs ≤ length (now (inputs .entry)) ⌝ }
+{
+    let last = count(line);
+    let mut asked = nothing();
+    let mut k: usize = 1;
+    while k < last {
+        asked = take(asked, k, argument(line, k), inputs);
+        k += 1;
+    }
+    complete(asked)
+}
+
 // What is wrong with all arguments together.
-pub fn complete(asked: Asked) -> Asked
+fn complete(asked: Asked) -> Asked
     ensures { λ r. ⌜ r .inputs ≤ asked .inputs ⌝ }
 {
     if asked.waits != NO_MORE {
@@ -237,6 +337,6 @@ pub fn put_problem(out: &mut [u8], at: usize, problem: u32) -> usize
     ensures { λ r. ⌜ r ≤ length (now (out .entry)) ⌝ }
 {
     let problems =
-        b"nothing is wrong;no table is named;there is no such option;an input is a decimal word, 0 to 4,294,967,295;no table has so many inputs;something is to follow this option;an allowance is a number, 0 to 18,446,744,073,709,551,615;--order and --reverse do not go together;the argument is too long;this command takes a table and nothing else;a drawing has no trace";
+        b"nothing is wrong;no table is named;there is no such option;an input is a decimal word, 0 to 4,294,967,295;no table has so many inputs;something is to follow this option;an allowance is a number, 0 to 18,446,744,073,709,551,615;--order and --reverse do not go together;this command takes a table and nothing else;a drawing has no trace";
     text::put(out, at, text::part(problems, problem as usize))
 }

@@ -4,13 +4,15 @@ use libc::STDOUT_FILENO;
 
 fn rehearse(graph: &[u32], inputs: &[u32], state: &mut [u32]) {
     let mut out = io::large_buffer();
-    let n = rehearsal::run_graph(graph, inputs, state, &[], 1000, &mut out);
+    let told = rehearsal::run_graph(graph, inputs, state, &[], 1000, &mut out);
+    let n = told.count;
     io::write_all(STDOUT_FILENO, &out[..n]);
 }
 
 fn trace(graph: &[u32], inputs: &[u32], state: &mut [u32]) {
     let mut out = io::large_buffer();
-    let n = rehearsal::trace_graph(graph, inputs, state, &[], 1000, STDOUT_FILENO, &mut out);
+    let told = rehearsal::trace_graph(graph, inputs, state, &[], 1000, STDOUT_FILENO, &mut out);
+    let n = told.count;
     io::write_all(STDOUT_FILENO, &out[..n]);
 }
 

@@ -62,13 +62,22 @@ fn put_numbers(out: &mut [u8], at: usize, number: u32, graph: &[u32], given: usi
     }
 }
 
+// How many letters a rehearsal put, and whether they tell a refusal.
+pub struct Rehearsed {
+    pub count: usize,
+    pub refused: bool,
+}
+
 // A refusal of a graph, its inputs or an order list.
-fn put_refused(out: &mut [u8], number: u32, graph: &[u32], given: usize) -> usize
-    ensures { λ r. ⌜ r ≤ length (now (out .entry)) ⌝ }
+fn put_refused(out: &mut [u8], number: u32, graph: &[u32], given: usize) -> Rehearsed
+    ensures { λ r. ⌜ r .count ≤ length (now (out .entry)) ⌝ }
 {
     let a = put_rule(out, number);
     let b = put_numbers(out, a, number, graph, given);
-    text::put_letter(out, b, b'\n')
+    Rehearsed {
+        count: text::put_letter(out, b, b'\n'),
+        refused: true,
+    }
 }
 
 fn put_word(out: &mut [u8], at: usize, state: &[u32], wire: u32) -> usize
@@ -174,8 +183,8 @@ pub fn run_graph(
     order: &[u32],
     allowance: u64,
     out: &mut [u8],
-) -> usize
-    ensures { λ r. ⌜ r ≤ length (now (out .entry)) ⌝ }
+) -> Rehearsed
+    ensures { λ r. ⌜ r .count ≤ length (now (out .entry)) ⌝ }
 {
     let number = machine::load(graph, inputs, state);
     if number != 0 {
@@ -194,8 +203,8 @@ pub fn trace_graph(
     allowance: u64,
     to: i32,
     out: &mut [u8],
-) -> usize
-    ensures { λ r. ⌜ r ≤ length (now (out .entry)) ⌝ }
+) -> Rehearsed
+    ensures { λ r. ⌜ r .count ≤ length (now (out .entry)) ⌝ }
 {
     let number = machine::load(graph, inputs, state);
     if number != 0 {
@@ -206,15 +215,18 @@ pub fn trace_graph(
 }
 
 // What a run has left.
-fn put_rested(out: &mut [u8], graph: &[u32], state: &[u32], ran: Ran) -> usize
-    ensures { λ r. ⌜ r ≤ length (now (out .entry)) ⌝ }
+fn put_rested(out: &mut [u8], graph: &[u32], state: &[u32], ran: Ran) -> Rehearsed
+    ensures { λ r. ⌜ r .count ≤ length (now (out .entry)) ⌝ }
 {
     let number = refusal_of(ran);
     if number != 0 {
         return put_refused(out, number, graph, 0);
     }
     let n = put_answered(out, 0, graph, ran);
-    put_results(out, n, graph, state)
+    Rehearsed {
+        count: put_results(out, n, graph, state),
+        refused: false,
+    }
 }
 
 // Loads and runs a graph, and draws it with the tokens that stand on its wires then. The answer is a comment above the drawing.
@@ -225,8 +237,8 @@ pub fn draw_graph(
     order: &[u32],
     allowance: u64,
     out: &mut [u8],
-) -> usize
-    ensures { λ r. ⌜ r ≤ length (now (out .entry)) ⌝ }
+) -> Rehearsed
+    ensures { λ r. ⌜ r .count ≤ length (now (out .entry)) ⌝ }
 {
     let number = machine::load(graph, inputs, state);
     if number != 0 {
@@ -236,8 +248,8 @@ pub fn draw_graph(
     put_drawn(out, graph, state, ran)
 }
 
-fn put_drawn(out: &mut [u8], graph: &[u32], state: &[u32], ran: Ran) -> usize
-    ensures { λ r. ⌜ r ≤ length (now (out .entry)) ⌝ }
+fn put_drawn(out: &mut [u8], graph: &[u32], state: &[u32], ran: Ran) -> Rehearsed
+    ensures { λ r. ⌜ r .count ≤ length (now (out .entry)) ⌝ }
 {
     let number = refusal_of(ran);
     if number != 0 {
@@ -245,7 +257,10 @@ fn put_drawn(out: &mut [u8], graph: &[u32], state: &[u32], ran: Ran) -> usize
     }
     let a = text::put(out, 0, b"// ");
     let b = put_answered(out, a, graph, ran);
-    drawn::put_drawing(out, b, graph, state)
+    Rehearsed {
+        count: drawn::put_drawing(out, b, graph, state),
+        refused: false,
+    }
 }
 
 // The words of a state, and no more than a state can have.

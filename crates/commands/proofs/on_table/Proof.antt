@@ -1,0 +1,48 @@
+-- `commands::on_table` is safe and ends. Assumes nothing.
+use mathlib.Core.Path.{sym}
+use native.Mathlib.Omega.{arith}
+use borrow.Author.Needs.{needs}
+use lib.Seq.{length-take-le}
+use Rattle.commands.proofs.on_table.Statement.{statement}
+use Rattle.commands.proofs.on_table.Tie as tie
+
+slice-reshare-prefix-check : tie.Need-slice-reshare-prefix-check
+slice-reshare-prefix-check c = search needs
+
+slice-aggregate-check : tie.Need-slice-aggregate-check
+slice-aggregate-check c = sym (length-take-le _ _ (omega arith))
+
+check-requires : tie.Need-check-requires
+check-requires c κs = search needs
+
+same-length : tie.Need-same-length
+same-length c = search needs
+
+returns : tie.Need-returns
+returns c = search needs
+
+slice-aggregate-lower : tie.Need-slice-aggregate-lower
+slice-aggregate-lower c = search needs
+
+lower-requires : tie.Need-lower-requires
+lower-requires c κs = search needs
+
+same-length-2 : tie.Need-same-length-2
+same-length-2 c = search needs
+
+returns-2 : tie.Need-returns-2
+returns-2 c = search needs
+
+pub on-table-spec : {M : Type 1} → statement M
+on-table-spec =
+    tie.close
+    (tie.spec
+    slice-reshare-prefix-check
+    slice-aggregate-check
+    check-requires
+    same-length
+    returns
+    slice-aggregate-lower
+    lower-requires
+    same-length-2
+    returns-2)

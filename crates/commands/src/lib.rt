@@ -1,0 +1,355 @@
+// The commands of rehearse on argument texts and two descriptors: answers go to `out`, refusals and complaints to `err`.
+// The last line of `out` is `refused` where a rule refused, `error` where a command, an argument or a file was wrong, and neither where all went well.
+ghost use Prim.Native.Nat.{_≤_};
+ghost use lib.ListN.{length};
+use arguments::Asked;
+use files::DONE;
+use files::ERROR;
+use files::Got;
+use files::REFUSED;
+
+// The commands on a table.
+
+const CHECK: u32 = 1;
+
+const LOWER: u32 = 2;
+
+const RUN: u32 = 3;
+
+const DRAW: u32 = 4;
+
+// What is to be done, and where it is told.
+struct Job {
+    command: u32,
+    out: i32,
+    err: i32,
+    asked: Asked,
+}
+
+fn usage(to: i32) {
+    io::write_all(
+        to,
+        b"rehearse check TABLE                      whether a loop table is right; if not, the row and the rule that refuses it
+rehearse run TABLE INPUT.. [OPTION..]     runs a table on its input words
+rehearse lower TABLE                      the words of a table's graph
+rehearse draw TABLE [INPUT.. OPTION..]    a table's graph as Graphviz text; with inputs, the tokens after a run
+rehearse calls                            answers calls, one a line, from standard input
+rehearse --help                           this
+Options of run: --order FILE, node numbers to go through once before the sweeps; --reverse, the nodes from the last to 0 so;
+--allowance N, the most firings, 1,000,000,000 where it is not given; --trace, a line for each firing.
+A table is a file of decimal words, six to a row; # starts a comment.
+",
+    );
+}
+
+// Refusals of a table. The text tells where a line has not the six words of a row: the rows behind it are then not those that were meant, so it is told first.
+
+fn note_odd(err: i32, path: &[u8], text: &[u8]) {
+    let odd = typed::odd_line(text);
+    if odd.line != 0 {
+        let mut what = io::buffer();
+        let n = typed::put_odd(&mut what, 0, odd);
+        files::complain(err, path, &what[..n]);
+    }
+}
+
+fn refuse(err: i32, path: &[u8], text: &[u8], table: &[u32], number: u32, row: u32) -> u32 {
+    note_odd(err, path, text);
+    let mut out = io::large_buffer();
+    let n = told::put_refusal(&mut out, path, table, number, row);
+    io::write_all(err, &out[..n]);
+    REFUSED
+}
+
+fn put_accepted(out: &mut [u8], path: &[u8]) -> usize
+    ensures { λ r. ⌜ r ≤ length (now (out .entry)) ⌝ }
+{
+    let n = text::put(out, 0, path);
+    text::put(out, n, b": accepted by rules 1 to 10\n")
+}
+
+fn check(job: Job, path: &[u8], text: &[u8], table: &[u32]) -> u32 {
+    let checked = lowering::check_table(table);
+    if checked.number != 0 {
+        return refuse(job.err, path, text, table, checked.number, checked.row);
+    }
+    let mut out = io::large_buffer();
+    let n = put_accepted(&mut out, path);
+    files::answer(job.out, job.err, &out[..n])
+}
+
+// Graphs.
+
+fn list(job: Job, graph: &[u32], out: &mut [u8]) -> u32 {
+    let n = drawn::put_graph(out, 0, graph);
+    files::answer(job.out, job.err, &out[..n])
+}
+
+fn draw(job: Job, graph: &[u32], out: &mut [u8]) -> u32 {
+    let n = drawn::put_drawing(out, 0, graph, &[]);
+    files::answer(job.out, job.err, &out[..n])
+}
+
+fn whole(count: usize) -> Got
+    ensures { λ r. ⌜ r .count ≤ count ⌝ }
+{
+    Got {
+        fine: true,
+        letters: 0,
+        count,
+    }
+}
+
+// The order list: a file's, the nodes from the last to 0, or none.
+fn order_of(job: Job, line: &[u8], graph: &[u32], text: &mut [u8], order: &mut [u32]) -> Got
+    ensures { λ r. ⌜ r .count ≤ length (now (order .entry)) ⌝ }
+{
+    let asked = job.asked;
+    if asked.order != 0 {
+        let path = arguments::argument(line, asked.order);
+        return files::read_file(job.err, path, false, text, order);
+    }
+    if asked.reverse {
+        return whole(rehearsal::reverse_order(graph, order));
+    }
+    whole(0)
+}
+
+fn put_rehearsed(
+    job: Job,
+    inputs: &[u32],
+    graph: &[u32],
+    order: &[u32],
+    state: &mut [u32],
+    out: &mut [u8],
+) -> rehearsal::Rehearsed
+    ensures { λ r. ⌜ r .count ≤ length (now (out .entry)) ⌝ }
+{
+    let asked = job.asked;
+    if job.command == DRAW {
+        return rehearsal::draw_graph(graph, inputs, state, order, asked.allowance, out);
+    }
+    if asked.trace {
+        return rehearsal::trace_graph(graph, inputs, state, order, asked.allowance, job.out, out);
+    }
+    rehearsal::run_graph(graph, inputs, state, order, asked.allowance, out)
+}
+
+// What a rehearsal told goes to its channel.
+fn tell(job: Job, refused: bool, text: &[u8]) -> u32 {
+    if refused {
+        io::write_all(job.err, text);
+        return REFUSED;
+    }
+    files::answer(job.out, job.err, text)
+}
+
+fn rehearse(job: Job, inputs: &[u32], graph: &[u32], order: &[u32], out: &mut [u8]) -> u32 {
+    let mut state = [0u32; 32768];
+    let k = rehearsal::state_words(graph);
+    let rehearsed = put_rehearsed(job, inputs, graph, order, &mut state[..k], out);
+    let n = rehearsed.count;
+    tell(job, rehearsed.refused, &out[..n])
+}
+
+fn run(job: Job, inputs: &[u32], line: &[u8], graph: &[u32], text: &mut [u8]) -> u32 {
+    let mut order = [0u32; 65536];
+    let got = order_of(job, line, graph, text, &mut order);
+    if got.fine {
+        let n = got.count;
+        return rehearse(job, inputs, graph, &order[..n], text);
+    }
+    ERROR
+}
+
+fn on_graph(job: Job, inputs: &[u32], line: &[u8], graph: &[u32], text: &mut [u8]) -> u32 {
+    let asked = job.asked;
+    if job.command == LOWER {
+        return list(job, graph, text);
+    }
+    if job.command == DRAW {
+        if asked.run {} else {
+            return draw(job, graph, text);
+        }
+    }
+    run(job, inputs, line, graph, text)
+}
+
+// Tables. Once a table is accepted its text is not needed: its memory holds the order list's file, then the answer.
+
+fn lower(
+    job: Job,
+    inputs: &[u32],
+    line: &[u8],
+    path: &[u8],
+    letters: usize,
+    table: &[u32],
+    graph: &mut [u32],
+    text: &mut [u8],
+) -> u32
+    requires { ⌜ letters ≤ length (now text) ⌝ }
+{
+    let lowered = lowering::lower(table, graph);
+    if lowered.number != 0 {
+        return refuse(
+            job.err,
+            path,
+            &text[..letters],
+            table,
+            lowered.number,
+            lowered.row,
+        );
+    }
+    let n = lowered.length;
+    if n <= graph.len() {
+        return on_graph(job, inputs, line, &graph[..n], text);
+    }
+    files::complain(job.err, path, b"the graph is too long");
+    ERROR
+}
+
+// A graph has at most 4 + 2 * 512 + 512 + 7 * 4096 words.
+fn on_table(
+    job: Job,
+    inputs: &[u32],
+    line: &[u8],
+    path: &[u8],
+    letters: usize,
+    table: &[u32],
+    text: &mut [u8],
+) -> u32
+    requires { ⌜ letters ≤ length (now text) ⌝ }
+{
+    if job.command == CHECK {
+        return check(job, path, &text[..letters], table);
+    }
+    let mut graph = [0u32; 30212];
+    lower(job, inputs, line, path, letters, table, &mut graph, text)
+}
+
+fn on_file(
+    job: Job,
+    inputs: &[u32],
+    line: &[u8],
+    path: &[u8],
+    text: &mut [u8],
+    words: &mut [u32],
+) -> u32 {
+    let got = files::read_file(job.err, path, true, text, words);
+    if got.fine {
+        let n = got.count;
+        return on_table(job, inputs, line, path, got.letters, &words[..n], text);
+    }
+    ERROR
+}
+
+// The memory that all commands on a table share.
+fn on_argument(job: Job, inputs: &[u32], line: &[u8]) -> u32 {
+    let asked = job.asked;
+    let path = arguments::argument(line, asked.table);
+    let mut text = [0u8; 1048576];
+    let mut words = [0u32; 65536];
+    on_file(job, inputs, line, path, &mut text, &mut words)
+}
+
+// Arguments.
+
+// What a command does not take.
+fn fitting(command: u32, asked: Asked) -> Asked
+    ensures { λ r. ⌜ r .inputs ≤ asked .inputs ⌝ }
+{
+    if command < RUN {
+        if asked.run {
+            return arguments::wrong(asked, arguments::ALONE, 0);
+        }
+    }
+    if command == DRAW {
+        if asked.trace {
+            return arguments::wrong(asked, arguments::TRACE, 0);
+        }
+    }
+    asked
+}
+
+// What is wrong, behind the argument that it is about.
+fn misused(err: i32, argument: &[u8], problem: u32) -> u32 {
+    let mut what = io::buffer();
+    let n = arguments::put_problem(&mut what, 0, problem);
+    files::complain(err, argument, &what[..n]);
+    ERROR
+}
+
+fn ask(command: u32, line: &[u8], out: i32, err: i32) -> u32 {
+    let mut inputs = [0u32; 512];
+    let asked = fitting(command, arguments::read(line, &mut inputs));
+    if asked.problem != 0 {
+        return misused(err, arguments::argument(line, asked.at), asked.problem);
+    }
+    let n = asked.inputs;
+    let job = Job {
+        command,
+        out,
+        err,
+        asked,
+    };
+    on_argument(job, &inputs[..n], line)
+}
+
+fn command_of(name: &[u8]) -> u32 {
+    if text::same(name, b"check") {
+        return CHECK;
+    }
+    if text::same(name, b"lower") {
+        return LOWER;
+    }
+    if text::same(name, b"run") {
+        return RUN;
+    }
+    if text::same(name, b"draw") {
+        return DRAW;
+    }
+    0
+}
+
+fn perform(line: &[u8], out: i32, err: i32) -> u32 {
+    let name = arguments::argument(line, 0);
+    let command = command_of(name);
+    if command == 0 {
+        files::complain(err, name, b"there is no such command");
+        usage(err);
+        return ERROR;
+    }
+    ask(command, line, out, err)
+}
+
+// The last line, by which a script tells a refusal and an error from an answer.
+fn close(out: i32, status: u32) {
+    match status {
+        REFUSED => {
+            io::write_all(out, b"refused\n");
+        }
+        ERROR => {
+            io::write_all(out, b"error\n");
+        }
+        _ => {}
+    }
+}
+
+// Arguments for which there is no room.
+pub fn refuse_long(out: i32, err: i32) {
+    files::complain(err, b"rehearse", b"the arguments are too long");
+    close(out, ERROR);
+}
+
+// Does what the arguments in a text ask.
+pub fn obey(line: &[u8], out: i32, err: i32) {
+    if arguments::asks_help(line) {
+        usage(out);
+        return;
+    }
+    if text::same(arguments::argument(line, 0), b"calls") {
+        calls::serve(0, out);
+        return;
+    }
+    close(out, perform(line, out, err));
+}
