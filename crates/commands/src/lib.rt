@@ -18,6 +18,8 @@ const RUN: u32 = 3;
 
 const DRAW: u32 = 4;
 
+const ROOM: u32 = 10;
+
 // What is to be done, and where it is told.
 struct Job {
     command: u32,
@@ -53,10 +55,22 @@ fn note_odd(err: i32, path: &[u8], text: &[u8]) {
     }
 }
 
-fn refuse(err: i32, path: &[u8], text: &[u8], table: &[u32], number: u32, row: u32) -> u32 {
+fn put_refused(out: &mut [u8], path: &[u8], table: &[u32], number: u32) -> usize
+    ensures { λ r. ⌜ r ≤ length (now (out .entry)) ⌝ }
+{
+    if number == ROOM {
+        let counts = measuring::count_table(table);
+        let four = [counts.nodes, counts.wires, counts.starts, counts.results];
+        return refused::put_room(out, path, four, counts.exact);
+    }
+    let clause = table::tell_rows(table);
+    refused::put_refusal(out, path, table, clause)
+}
+
+fn refuse(err: i32, path: &[u8], text: &[u8], table: &[u32], number: u32) -> u32 {
     note_odd(err, path, text);
     let mut out = io::large_buffer();
-    let n = told::put_refusal(&mut out, path, table, number, row);
+    let n = put_refused(&mut out, path, table, number);
     io::write_all(err, &out[..n]);
     REFUSED
 }
@@ -71,7 +85,7 @@ fn put_accepted(out: &mut [u8], path: &[u8]) -> usize
 fn check(job: Job, path: &[u8], text: &[u8], table: &[u32]) -> u32 {
     let checked = lowering::check_table(table);
     if checked.number != 0 {
-        return refuse(job.err, path, text, table, checked.number, checked.row);
+        return refuse(job.err, path, text, table, checked.number);
     }
     let mut out = io::large_buffer();
     let n = put_accepted(&mut out, path);
@@ -191,14 +205,7 @@ fn lower(
 {
     let lowered = lowering::lower(table, graph);
     if lowered.number != 0 {
-        return refuse(
-            job.err,
-            path,
-            &text[..letters],
-            table,
-            lowered.number,
-            lowered.row,
-        );
+        return refuse(job.err, path, &text[..letters], table, lowered.number);
     }
     let n = lowered.length;
     if n <= graph.len() {

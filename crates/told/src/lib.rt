@@ -1,4 +1,4 @@
-// What people are told: the names of kinds, rules and answers, and what a refused row says.
+// What people are told: the names of kinds, rules and answers, and what a row says.
 // Names stand in one text, a part for each number, so that a name is found by one call.
 ghost use Prim.Native.Nat.{_≤_};
 ghost use lib.ListN.{length};
@@ -95,37 +95,4 @@ pub fn put_row(out: &mut [u8], at: usize, table: &[u32], row: usize) -> usize
         }
     }
     text::put(out, at, b" nothing, the table ends before it")
-}
-
-// The rule's name and number.
-fn put_number_and_rule(out: &mut [u8], at: usize, number: u32) -> usize
-    requires { ⌜ at ≤ length (now out) ⌝ }
-    ensures { λ r. ⌜ r ≤ length (now (out .entry)) ⌝ }
-{
-    let a = text::put(out, at, b": refused by rule");
-    let b = text::put_next(out, a, number as u64);
-    let c = text::put_letter(out, b, b' ');
-    put_rule(out, c, number)
-}
-
-fn put_said(out: &mut [u8], at: usize, table: &[u32], row: usize) -> usize
-    requires { ⌜ at ≤ length (now out) ⌝ }
-    ensures { λ r. ⌜ r ≤ length (now (out .entry)) ⌝ }
-{
-    let n = text::put(out, at, b"\n  the row says:");
-    put_row(out, n, table, row)
-}
-
-// A refusal, told: file, row, the rule's name and number, what the row says, what the rule asks.
-pub fn put_refusal(out: &mut [u8], file: &[u8], table: &[u32], number: u32, row: u32) -> usize
-    ensures { λ r. ⌜ r ≤ length (now (out .entry)) ⌝ }
-{
-    let a = text::put(out, 0, file);
-    let b = text::put(out, a, b": row");
-    let c = text::put_next(out, b, row as u64);
-    let d = put_number_and_rule(out, c, number);
-    let e = put_said(out, d, table, row as usize);
-    let f = text::put(out, e, b"\n  the rule: ");
-    let g = put_asked(out, f, number);
-    text::put_letter(out, g, b'\n')
 }
