@@ -1,4 +1,4 @@
--- The nine kinds of node: document 01, 'The graph', its table of kinds, and the sorts of what stands on each place.
+-- The nine kinds of node: docs/RULES.md, section 'The graph', its table of kinds, with the sorts of what stands on each place.
 --
 --   Kind, kindOf                  a kind and its number
 --   inputs, outputs               how many places of each a kind has

@@ -1,4 +1,4 @@
-// The check of a loop table's rows: refusals 1 to 9 of the paper, with the row that tells the fitter what to mend.
+// The check of a loop table's rows: refusals 1 to 9, with the row that tells the fitter what to mend.
 // `check_rows` is the entry. The stack of open loops is eight entries of three words (first row, ARGs, NEXTs), by value.
 ghost use mathlib.Core.Path.{_≡_};
 ghost use Prim.Native.Nat.{_+_, _-_, _*_, _/_, _%_, _<_, _≤_};
