@@ -1,5 +1,5 @@
 #!/usr/bin/env python3
-"""An independent model of tables, lowering, graphs, states and runs, written from document 01 alone.
+"""An independent model of tables, lowering, graphs, states and runs, written from the rules alone (document 01, told in docs/RULES.md).
 
   tests/model.py < calls            answers each line of the protocol of `rehearse calls`
   tests/model.py cases              prints the calls of crates/graph_cases/stdin
@@ -540,7 +540,7 @@ def answer(line):
     return listed(four, s)
 
 
-# Document 01's sum graph, and what the register asks of it.
+# The sum graph, and what the register asks of it.
 
 SUM = [13, 22, 3, 1, 0, 0, 1, 0, 1, 1, 10,
        0, 0, 0, 14, 2, 12, 3, 1, 0, 0, 3, 18, X, 5, 7, 3, 0, 16, 13, X, 7, 2, 0, 0, 20, 17, 11, 8, 4, 0, 0, 21, 8, X, 9,
