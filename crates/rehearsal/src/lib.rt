@@ -245,7 +245,7 @@ fn put_drawn(out: &mut [u8], graph: &[u32], state: &[u32], ran: Ran) -> usize
     }
     let a = text::put(out, 0, b"// ");
     let b = put_answered(out, a, graph, ran);
-    drawn::put_drawing(out, b, graph, state)
+    drawn::put_drawing(out, b, graph, state, &[], &[])
 }
 
 // The words of a state, and no more than a state can have.

@@ -142,7 +142,7 @@ fn list(graph: &[u32], out: &mut [u8]) {
 }
 
 fn draw(graph: &[u32], out: &mut [u8]) {
-    let n = drawn::put_drawing(out, 0, graph, &[]);
+    let n = drawn::put_drawing(out, 0, graph, &[], &[], &[]);
     say(&out[..n]);
 }
 
