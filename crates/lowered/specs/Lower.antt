@@ -151,8 +151,8 @@ abbrev pub forkNode : ℕ → ℕ → ℕ → Node
 forkNode s x f = record { kind = FORK; code = 0; sort = s; wire0 = x; wire1 = absent; wire2 = absent; first = f }
 
 -- 'A wire without a use gets a DRAIN, a wire with one use nothing, and any other one FORK fewer than it has uses. The first FORK reads the
--- wire; each gives its first leg to the next use, and its second leg is what the next FORK reads'. Wire x of sort s has these uses, and the next
--- free wire number is f.
+-- wire; the first leg of each goes to the use that is next in order, and the next FORK reads its second leg'. Wire x of sort s has these uses, and
+-- the next free wire number is f.
 abbrev pub forkRows : ℕ → ℕ → List Use → ℕ → List Node
 forkRows s x [] f = drainNode s x ∷ []
 forkRows s x (u ∷ []) f = []

@@ -1,4 +1,4 @@
--- The entry run: docs/RULES.md, sections 'Firing' and 'Refusal numbers'. It fixes its answer, node, firings and every lent word, for any words at all.
+-- The entry run: docs/RULES.md, sections 'Firing' and 'Refusal numbers'. Whatever the words, it fixes the answer, its node, the firings and every lent word.
 --
 --   orderBelow                        no number of the order list is past the last node
 --   runRefusal, runAt, runState       the refusal's number; where the run ends; the state after the call
@@ -52,7 +52,7 @@ unfoldable pub runAnswer : List ℕ → List ℕ → List ℕ → ℕ → Ran
 runAnswer g s order allowance =
     pick (eqb (runRefusal g s order) 0) (ranBy (outcome g (runAt g s order allowance .state)) (runFirings g s order allowance)) (Refused (runRefusal g s order))
 
--- ---- the answer by number. Of a refusal: 'Its firings and its node, where an entry has them, are 0'.
+-- ---- the answer by number. Of a refusal: 'An entry that tells firings or a node answers 0 for them'.
 
 abbrev pub ranNumber : Ran → ℕ
 ranNumber (Refused n) = n

@@ -33,12 +33,12 @@ turned (some a) s (suc l) = record { state = a; left = l }
 unfoldable pub turn : Net → ℕ → At → At
 turn N i p = turned (fire N i (p .state)) (p .state) (p .left)
 
--- 'goes through the caller's list once and fires each node that is ready when its turn comes'
+-- 'goes through the caller's list once, and each number is a turn of that node: it fires if it is ready'
 unfoldable pub follow : Net → List ℕ → At → At
 follow N [] p = p
 follow N (i ∷ order) p = follow N order (turn N i p)
 
--- 'then it sweeps over all nodes from node 0 up, each node once a sweep': m nodes from node i up
+-- 'Then it sweeps over all nodes from node 0 up, a turn for each node in a sweep': m nodes from node i up
 unfoldable pub sweepFrom : Net → ℕ → ℕ → At → At
 sweepFrom N zero i p = p
 sweepFrom N (suc m) i p = sweepFrom N m (i + 1) (turn N i p)

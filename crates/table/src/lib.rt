@@ -1,5 +1,5 @@
 // The check of a loop table's rows: refusals 1 to 9, with the row that tells the fitter what to mend.
-// `check_rows` is the entry. The stack of open loops is eight entries of three words (first row, ARGs, NEXTs), by value.
+// `check_rows` is the entry. The stack of open loops is eight entries of three words (its FOR row, its ARGs, its NEXTs), by value.
 ghost use mathlib.Core.Path.{_≡_};
 ghost use Prim.Native.Nat.{_+_, _-_, _*_, _/_, _%_, _<_, _≤_};
 ghost use mathlib.Core.Bool.{true, cond};
