@@ -1,11 +1,11 @@
 #!/usr/bin/env python3
-"""An independent model of tables, lowering, graphs, states and runs, written from document 01 alone.
+"""An independent model of tables, lowering, graphs, states and runs, written from the rules alone (document 01, told in docs/RULES.md).
 
   tests/model.py < calls            answers each line of the protocol of `rehearse calls`
   tests/model.py cases              prints the calls of crates/graph_cases/stdin
   tests/model.py lowering-cases     prints the calls of crates/lowering_cases/stdin
   tests/model.py told               says of each call of the two what it shows, with the start of the answer
-  tests/model.py draw < words       lists and draws a graph and its tokens, as crates/graph_drawn does
+  tests/model.py draw < words       lists and draws a graph, its tokens and names, as crates/graph_drawn does
   tests/model.py trace < words      runs a graph and tells each firing, as crates/graph_rehearsed does
   tests/model.py lower < table      the words of a table's graph, a line a row, as `rehearse lower` prints them
 
@@ -540,7 +540,7 @@ def answer(line):
     return listed(four, s)
 
 
-# Document 01's sum graph, and what the register asks of it.
+# The sum graph, and what the register asks of it.
 
 SUM = [13, 22, 3, 1, 0, 0, 1, 0, 1, 1, 10,
        0, 0, 0, 14, 2, 12, 3, 1, 0, 0, 3, 18, X, 5, 7, 3, 0, 16, 13, X, 7, 2, 0, 0, 20, 17, 11, 8, 4, 0, 0, 21, 8, X, 9,
@@ -731,26 +731,48 @@ def rehearsed(g, words, allowance):
     return out + [f'result {k}: {"none" if tokens[x] is None else tokens[x]}' for k, x in enumerate(graph.results)]
 
 
-def drawing(g, words):
-    """The listing of a graph, a line a row, and its dot text with the tokens of a state."""
+def wire_name(what, row, of):
+    """What a wire before forks has, in few words."""
+    loop, copy, arg = f'FOR {row}', f'copy of row {of} in FOR {row}', f'ARG {row}'
+    return [f'row {row}', f'row {row}', f'raw index, {loop}', f'raw condition, {loop}', f'index, {loop}', f'gated condition, {loop}', f'guard, {loop}',
+            f'true leg, {copy}', f'false leg, {copy}', copy, f'carry, {arg}', arg, f'exit word, {arg}'][what]
+
+
+def node_name(role, row, of):
+    """What a node is for, in few words: the names of a wire's FORKs count from 16, of its DRAIN from 32."""
+    if role >= 16: return 'of ' + wire_name(role % 16, row, of)
+    copy = f'copy of row {of} in FOR {row}'
+    return [f'row {row}', f'FOR {row}', f'FOR {row}', f'guard, FOR {row}', copy, copy, f'ARG {row}', f'ARG {row}'][role]
+
+
+HEADS = [('start', 'step', 'bound'), ('value', 'cond'), 'dab', 'da', ('flag', 'value'), None, None, 'xy', ('flag', 'x', 'y')]
+TAILS = {STREAM: ('index', 'cond'), GATE: ('value', 'cond'), SPLIT: 'TF'}
+
+
+def drawing(g, words, names=(), wire_names=()):
+    """The listing of a graph, a line a row, and its dot text with the tokens of a state and with names, three words each, where they are given."""
     graph = Graph(g)
     nodes = graph.nodes()
-    given = {x: (f'n{i}', sort) for i, node in enumerate(nodes) for x, sort in zip(node.wires_out(), node.output_sorts())}
-    given.update({k: (f's{k}', 0) for k in range(len(graph.starts))})
+    given = {x: (f'n{i}', sort, TAILS.get(node.kind, [''] * 2)[k]) for i, node in enumerate(nodes) for k, (x, sort) in enumerate(zip(node.wires_out(), node.output_sorts()))}
+    given.update({k: (f's{k}', 0, '') for k in range(len(graph.starts))})
     tokens = State(graph, words).tokens if words else [None] * graph.wires
     shapes = 'house invhouse box box3d diamond triangle invtriangle circle trapezium'.split()
 
-    def edge(wire, reader):
-        source, sort = given[wire]
+    def edge(wire, reader, head=''):
+        source, sort, tail = given[wire]
         token = '' if tokens[wire] is None else f': {tokens[wire]}'
-        return f'{source} -> {reader} [label="{wire}{token}" style={"dashed" if sort else "solid"}];'
+        name = wire_name(*wire_names[3 * wire:3 * wire + 3]) if wire_names else ''
+        marks = ''.join(f' {what}="{mark}"' for what, mark in (('taillabel', tail), ('tooltip', name), ('headlabel', head)) if mark)
+        return f'{source} -> {reader} [label="{wire}{token}" style={"dashed" if sort else "solid"}{marks}];'
 
     out = [g[:4], [x for row in graph.starts for x in row], graph.results] + graph.rows
     out = [' '.join(map(str, x)) for x in out] + ['digraph graph_of_tokens {']
+    out.append('label="solid: words, dashed: flags; a wire has its number, then the token on it; T and F: the true and the false leg";')
     for k, (kind, word) in enumerate(graph.starts): out.append(f's{k} [shape=plaintext label="{["input", "constant"][kind]} {word}"];')
     for i, node in enumerate(nodes):
-        out.append(f'n{i} [label="{i} {name_of(node)}" shape={shapes[node.kind]}];')
-        out += [edge(x, f'n{i}') for x in node.wires_in()]
+        name = r'\n' + node_name(*names[3 * i:3 * i + 3]) if names else ''
+        out.append(f'n{i} [label="{i} {name_of(node)}{name}" shape={shapes[node.kind]}];')
+        out += [edge(x, f'n{i}', (HEADS[node.kind] or [''])[k]) for k, x in enumerate(node.wires_in())]
     for k, x in enumerate(graph.results): out += [f'r{k} [shape=plaintext label="result {k}"];', edge(x, f'r{k}')]
     return out + ['}']
 
@@ -769,8 +791,7 @@ if __name__ == '__main__':
             for k, (shows, line) in enumerate(part): print(f'{k + 1}. {shows}: `{answer(line).partition(" ;")[0]}`')
             print()
     elif what == ['draw']:
-        g, _, s = sys.stdin.read().partition(';')
-        print('\n'.join(drawing(numbers(g), numbers(s))))
+        print('\n'.join(drawing(*[numbers(x) for x in sys.stdin.read().split(';')])))
     elif what == ['trace']:
         g, inputs, s = [numbers(x) for x in sys.stdin.read().split(';')]
         loaded = load(len(s), g, inputs)[1]

@@ -1,4 +1,4 @@
--- The way of a value out of the bodies that use it: one loop further out each time, until its home is reached.
+-- The way of a value out of the bodies that use it: loop by loop going outward, up to its home.
 --
 --   rank                      falls along the way
 --   is-loop, below            a body on the way that is not home is a loop

@@ -100,7 +100,7 @@ fn list(job: Job, graph: &[u32], out: &mut [u8]) -> u32 {
 }
 
 fn draw(job: Job, graph: &[u32], out: &mut [u8]) -> u32 {
-    let n = drawn::put_drawing(out, 0, graph, &[]);
+    let n = drawn::put_drawing(out, 0, graph, &[], &[], &[]);
     files::answer(job.out, job.err, &out[..n])
 }
 

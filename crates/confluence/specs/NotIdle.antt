@@ -1,4 +1,4 @@
--- The theorems about any order are not idle: document 01's sum graph, freshly loaded, has a ready node, and with input 5 they speak of 58 firings.
+-- The theorems about any order are not idle: the sum graph, freshly loaded, has a ready node, and with input 5 they speak of 58 firings.
 --
 --   the-sum-graph-is-accepted
 --   the-sum-graph-is-ready    whatever its input, a node is ready in the loaded state

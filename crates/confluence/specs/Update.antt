@@ -25,7 +25,7 @@ use Rattle.state.specs.Net.{Net, effectAt, stores}
 use Rattle.confluence.specs.Places.{Each, each-map, Off, stored-other, stored-value}
 use Rattle.confluence.specs.Wired.{Wired, Store, taken, given, left, each-store, part-taken, part-given, part-left, same-wire, taken-not-given}
 
--- full (0 or 1) and word
+-- whether it is full, and its word
 abbrev pub wireAt : List ℕ → ℕ → ℕ × ℕ
 wireAt s w = (getD s (fullPlace w) 0, getD s (wordPlace w) 0)
 

@@ -1,5 +1,6 @@
 // A graph for the eye: its words line by line, and as Graphviz dot text.
-// Machines by shape, flags dashed, starts and results marked; a token that stands on a wire is written behind the wire's number.
+// Machines by shape, flags dashed, starts and results marked; where a kind has several inputs or outputs that differ, each is marked at its end of
+// the wire. A token that stands on a wire is written behind the wire's number. A node that has a name shows it in a second line.
 // Nothing is asked of the words: what is not there reads as 0, and so does a count past 8,192.
 ghost use mathlib.Core.Path.{_≡_};
 ghost use Prim.Native.Nat.{_≤_, _<_, _+_, _*_};
@@ -165,16 +166,71 @@ pub fn put_name(out: &mut [u8], at: usize, graph: &[u32], i: usize) -> usize
     told::put_code(out, c, kind, row_word(graph, i, 1))
 }
 
-fn put_node(out: &mut [u8], at: usize, graph: &[u32], i: usize) -> usize
+// A row of the table, or for the copy of a value the value's row and its loop's.
+fn put_rows_named(out: &mut [u8], at: usize, copy: bool, row: u32, of: u32) -> usize
+    requires { ⌜ at ≤ length (now out) ⌝ }
+    ensures { λ r. ⌜ r ≤ length (now (out .entry)) ⌝ }
+{
+    if copy {
+        let a = text::put_number(out, at, of as u64);
+        let b = text::put(out, a, b" in FOR ");
+        return text::put_number(out, b, row as u64);
+    }
+    text::put_number(out, at, row as u64)
+}
+
+// What a wire before forks has, in few words; `what` 7 to 9 is of a copy.
+fn put_wire_short(out: &mut [u8], at: usize, what: u32, row: u32, of: u32) -> usize
+    requires { ⌜ at ≤ length (now out) ⌝ }
+    ensures { λ r. ⌜ r ≤ length (now (out .entry)) ⌝ }
+{
+    let names =
+        b"row ;row ;raw index, FOR ;raw condition, FOR ;index, FOR ;gated condition, FOR ;guard, FOR ;true leg, copy of row ;false leg, copy of row ;copy of row ;carry, ARG ;ARG ;exit word, ARG ";
+    let n = text::put(out, at, text::part(names, what as usize));
+    put_rows_named(out, n, 7 <= what && what <= 9, row, of)
+}
+
+// What a node is for, in few words: its row, or of a FORK (from 16 on) or DRAIN (from 32 on) what its wire has.
+fn put_role_short(out: &mut [u8], at: usize, role: u32, row: u32, of: u32) -> usize
+    requires { ⌜ at ≤ length (now out) ⌝ }
+    ensures { λ r. ⌜ r ≤ length (now (out .entry)) ⌝ }
+{
+    if role < 16 {
+        let names = b"row ;FOR ;FOR ;guard, FOR ;copy of row ;copy of row ;ARG ;ARG ";
+        let n = text::put(out, at, text::part(names, role as usize));
+        return put_rows_named(out, n, role == 4 || role == 5, row, of);
+    }
+    let n = text::put(out, at, b"of ");
+    if role < 32 {
+        return put_wire_short(out, n, role - 16, row, of);
+    }
+    put_wire_short(out, n, role - 32, row, of)
+}
+
+// The second line of node i, if it has a name: three words of `nodes`.
+fn put_role_line(out: &mut [u8], at: usize, nodes: &[u32], i: usize) -> usize
+    requires { ⌜ (at ≤ length (now out)) × (i ≤ 8192) ⌝ }
+    ensures { λ r. ⌜ r ≤ length (now (out .entry)) ⌝ }
+{
+    let place = 3 * i;
+    if place + 2 < nodes.len() {
+        let n = text::put(out, at, b"\\n");
+        return put_role_short(out, n, nodes[place], nodes[place + 1], nodes[place + 2]);
+    }
+    at
+}
+
+fn put_node(out: &mut [u8], at: usize, graph: &[u32], nodes: &[u32], i: usize) -> usize
     requires { ⌜ (at ≤ length (now out)) × (i ≤ 8192) ⌝ }
     ensures { λ r. ⌜ r ≤ length (now (out .entry)) ⌝ }
 {
     let a = put_mark(out, at, b'n', i as u64);
     let b = text::put(out, a, b" [label=\"");
     let c = put_name(out, b, graph, i);
-    let d = text::put(out, c, b"\" shape=");
-    let e = put_shape(out, d, row_word(graph, i, 0));
-    text::put(out, e, b"];\n")
+    let d = put_role_line(out, c, nodes, i);
+    let e = text::put(out, d, b"\" shape=");
+    let f = put_shape(out, e, row_word(graph, i, 0));
+    text::put(out, f, b"];\n")
 }
 
 // Where a wire comes from: a start or a node.
@@ -199,6 +255,69 @@ fn put_style(out: &mut [u8], at: usize, graph: &[u32], wire: u32) -> usize
         return text::put(out, at, b"solid");
     }
     text::put(out, at, b"dashed")
+}
+
+// What stands at one end of a wire, if it has a mark.
+fn put_end(out: &mut [u8], at: usize, name: &[u8], mark: &[u8]) -> usize
+    requires { ⌜ at ≤ length (now out) ⌝ }
+    ensures { λ r. ⌜ r ≤ length (now (out .entry)) ⌝ }
+{
+    if mark.len() == 0 {
+        return at;
+    }
+    let a = text::put(out, at, name);
+    let b = text::put(out, a, mark);
+    text::put_letter(out, b, b'"')
+}
+
+// What input k of a kind is called, three to a kind; FORK and DRAIN have one input, which needs no name.
+fn put_head(out: &mut [u8], at: usize, kind: u32, k: usize) -> usize
+    requires { ⌜ (at ≤ length (now out)) × (k < 3) ⌝ }
+    ensures { λ r. ⌜ r ≤ length (now (out .entry)) ⌝ }
+{
+    let marks = b"start;step;bound;value;cond;;d;a;b;d;a;;flag;value;;;;;;;;x;y;;flag;x;y";
+    let mark = text::part(marks, 3 * (kind as usize) + k);
+    put_end(out, at, b" headlabel=\"", mark)
+}
+
+// Which output of a node a wire is, if its first is not this one: the second.
+fn output_place(first: u32, wire: u32) -> usize
+    ensures { λ r. ⌜ r ≤ 1 ⌝ }
+{
+    if wire == first {
+        return 0;
+    }
+    1
+}
+
+// What the output that gives a wire is called, two to a kind; a FORK's two are alike.
+fn put_tail(out: &mut [u8], at: usize, graph: &[u32], wire: u32) -> usize
+    requires { ⌜ at ≤ length (now out) ⌝ }
+    ensures { λ r. ⌜ r ≤ length (now (out .entry)) ⌝ }
+{
+    if wire < word_at(graph, 2) {
+        return at;
+    }
+    let i = source_of(graph, wire);
+    let place = output_place(row_word(graph, i, 6), wire);
+    let kind = row_word(graph, i, 0);
+    let marks = b"index;cond;value;cond;;;;;T;F";
+    let mark = text::part(marks, 2 * (kind as usize) + place);
+    put_end(out, at, b" taillabel=\"", mark)
+}
+
+// What a wire has, if it has a name: three words of `wires`.
+fn put_tip(out: &mut [u8], at: usize, wires: &[u32], wire: u32) -> usize
+    requires { ⌜ at ≤ length (now out) ⌝ }
+    ensures { λ r. ⌜ r ≤ length (now (out .entry)) ⌝ }
+{
+    let place = 3 * (wire as usize);
+    if place + 2 < wires.len() {
+        let a = text::put(out, at, b" tooltip=\"");
+        let b = put_wire_short(out, a, wires[place], wires[place + 1], wires[place + 2]);
+        return text::put_letter(out, b, b'"');
+    }
+    at
 }
 
 // The token on a wire, if one stands there.
@@ -231,12 +350,24 @@ fn put_arrow(
     put_mark(out, b, letter, number as u64)
 }
 
-// A wire as an edge: its number, the token on it, and its sort.
+// A wire's label: its number, and the token on it.
+fn put_label(out: &mut [u8], at: usize, state: &[u32], wire: u32) -> usize
+    requires { ⌜ at ≤ length (now out) ⌝ }
+    ensures { λ r. ⌜ r ≤ length (now (out .entry)) ⌝ }
+{
+    let a = text::put(out, at, b" [label=\"");
+    let b = text::put_number(out, a, wire as u64);
+    let c = put_token(out, b, state, wire);
+    text::put(out, c, b"\" style=")
+}
+
+// A wire as an edge, up to what its reader calls it: label, sort, its source's mark and its name.
 fn put_edge(
     out: &mut [u8],
     at: usize,
     graph: &[u32],
     state: &[u32],
+    wires: &[u32],
     wire: u32,
     letter: u8,
     number: usize,
@@ -245,24 +376,28 @@ fn put_edge(
     ensures { λ r. ⌜ r ≤ length (now (out .entry)) ⌝ }
 {
     let a = put_arrow(out, at, graph, wire, letter, number);
-    let b = text::put(out, a, b" [label=\"");
-    let c = text::put_number(out, b, wire as u64);
-    let d = put_token(out, c, state, wire);
-    let e = text::put(out, d, b"\" style=");
-    let f = put_style(out, e, graph, wire);
-    text::put(out, f, b"];\n")
+    let b = put_label(out, a, state, wire);
+    let c = put_style(out, b, graph, wire);
+    let d = put_tail(out, c, graph, wire);
+    put_tip(out, d, wires, wire)
 }
 
 // The edges to node i: its inputs in order.
-fn put_inputs(out: &mut [u8], at: usize, graph: &[u32], state: &[u32], i: usize) -> usize
+fn put_inputs(
+    out: &mut [u8],
+    at: usize,
+    graph: &[u32],
+    state: &[u32],
+    wires: &[u32],
+    i: usize,
+) -> usize
     requires { ⌜ (at ≤ length (now out)) × (i ≤ 8192) ⌝ }
     ensures { λ r. ⌜ r ≤ length (now (out .entry)) ⌝ }
 {
-    let inputs = graph::inputs_of(row_word(graph, i, 0));
     let mut n = at;
     let mut k: usize = 0;
     while k < 3 {
-        n = put_input(out, n, graph, state, i, k, inputs);
+        n = put_input(out, n, graph, state, wires, i, k);
         k += 1;
     }
     n
@@ -273,29 +408,48 @@ fn put_input(
     at: usize,
     graph: &[u32],
     state: &[u32],
+    wires: &[u32],
     i: usize,
     k: usize,
-    inputs: u32,
 ) -> usize
     requires { ⌜ (at ≤ length (now out)) × (i ≤ 8192) × (k < 3) ⌝ }
     ensures { λ r. ⌜ r ≤ length (now (out .entry)) ⌝ }
 {
-    if k < inputs as usize {
-        return put_edge(out, at, graph, state, row_word(graph, i, 3 + k), b'n', i);
+    let kind = row_word(graph, i, 0);
+    if k < graph::inputs_of(kind) as usize {
+        let a = put_edge(
+            out,
+            at,
+            graph,
+            state,
+            wires,
+            row_word(graph, i, 3 + k),
+            b'n',
+            i,
+        );
+        let b = put_head(out, a, kind, k);
+        return text::put(out, b, b"];\n");
     }
     at
 }
 
-fn put_nodes(out: &mut [u8], at: usize, graph: &[u32], state: &[u32]) -> usize
+fn put_nodes(
+    out: &mut [u8],
+    at: usize,
+    graph: &[u32],
+    state: &[u32],
+    nodes: &[u32],
+    wires: &[u32],
+) -> usize
     requires { ⌜ at ≤ length (now out) ⌝ }
     ensures { λ r. ⌜ r ≤ length (now (out .entry)) ⌝ }
 {
-    let nodes = count_at(graph, 0);
+    let count = count_at(graph, 0);
     let mut n = at;
     let mut i: usize = 0;
-    while i < nodes {
-        n = put_node(out, n, graph, i);
-        n = put_inputs(out, n, graph, state, i);
+    while i < count {
+        n = put_node(out, n, graph, nodes, i);
+        n = put_inputs(out, n, graph, state, wires, i);
         i += 1;
     }
     n
@@ -330,7 +484,14 @@ fn put_starts(out: &mut [u8], at: usize, graph: &[u32]) -> usize
     n
 }
 
-fn put_result(out: &mut [u8], at: usize, graph: &[u32], state: &[u32], k: usize) -> usize
+fn put_result(
+    out: &mut [u8],
+    at: usize,
+    graph: &[u32],
+    state: &[u32],
+    wires: &[u32],
+    k: usize,
+) -> usize
     requires { ⌜ (at ≤ length (now out)) × (k ≤ 8192) ⌝ }
     ensures { λ r. ⌜ r ≤ length (now (out .entry)) ⌝ }
 {
@@ -338,18 +499,12 @@ fn put_result(out: &mut [u8], at: usize, graph: &[u32], state: &[u32], k: usize)
     let b = text::put(out, a, b" [shape=plaintext label=\"result ");
     let c = text::put_number(out, b, k as u64);
     let d = text::put(out, c, b"\"];\n");
-    put_edge(
-        out,
-        d,
-        graph,
-        state,
-        word_at(graph, results_place(graph) + k),
-        b'r',
-        k,
-    )
+    let wire = word_at(graph, results_place(graph) + k);
+    let e = put_edge(out, d, graph, state, wires, wire, b'r', k);
+    text::put(out, e, b"];\n")
 }
 
-fn put_results(out: &mut [u8], at: usize, graph: &[u32], state: &[u32]) -> usize
+fn put_results(out: &mut [u8], at: usize, graph: &[u32], state: &[u32], wires: &[u32]) -> usize
     requires { ⌜ at ≤ length (now out) ⌝ }
     ensures { λ r. ⌜ r ≤ length (now (out .entry)) ⌝ }
 {
@@ -357,20 +512,31 @@ fn put_results(out: &mut [u8], at: usize, graph: &[u32], state: &[u32]) -> usize
     let mut n = at;
     let mut k: usize = 0;
     while k < results {
-        n = put_result(out, n, graph, state, k);
+        n = put_result(out, n, graph, state, wires, k);
         k += 1;
     }
     n
 }
 
-// The whole drawing. A state of no words has no tokens.
-pub fn put_drawing(out: &mut [u8], at: usize, graph: &[u32], state: &[u32]) -> usize
+// The whole drawing. A state of no words has no tokens. `nodes` and `wires` have three words for each name: what it is, its row, and of a copy
+// the value's row; without words there are no names.
+pub fn put_drawing(
+    out: &mut [u8],
+    at: usize,
+    graph: &[u32],
+    state: &[u32],
+    nodes: &[u32],
+    wires: &[u32],
+) -> usize
     requires { ⌜ at ≤ length (now out) ⌝ }
     ensures { λ r. ⌜ r ≤ length (now (out .entry)) ⌝ }
 {
+    let legend =
+        b"label=\"solid: words, dashed: flags; a wire has its number, then the token on it; T and F: the true and the false leg\";\n";
     let a = text::put(out, at, b"digraph graph_of_tokens {\n");
-    let b = put_starts(out, a, graph);
-    let c = put_nodes(out, b, graph, state);
-    let d = put_results(out, c, graph, state);
-    text::put(out, d, b"}\n")
+    let b = text::put(out, a, legend);
+    let c = put_starts(out, b, graph);
+    let d = put_nodes(out, c, graph, state, nodes, wires);
+    let e = put_results(out, d, graph, state, wires);
+    text::put(out, e, b"}\n")
 }

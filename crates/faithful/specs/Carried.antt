@@ -1,7 +1,7 @@
 -- Bodies of a table of words, and the values that are carried into them.
 --
 --   inner-at                  the body of a row is the innermost one there
---   inside-means              'body B is loop L or lies in it', in row numbers
+--   inside-means              that body B is loop L or lies in it, in row numbers
 --   carried-by, by-carried    a value is carried into a loop because a row in it names it
 --   carried-before            it is the value of a row before the loop
 --   carried-passed            and of a NEXT the END has passed before the loop opens
@@ -117,7 +117,7 @@ module _ (t : List ℕ) (S : Structure t) where
           enclosed M (bodyOf t r) (k .0) (k .1) (body-cases r (omega arith))
           (S .body-inmost r M (omega arith) (k .0) (record { is-for = k .1; low = lo; high = (let h : r ≤ endOf t M = omega arith in h) }))
 
-  -- ---- 'body B is loop L, or lies in it'
+  -- ---- body B is loop L, or lies in it
 
   pub inside-means : (L B : ℕ) → L < size t → kindOf t L ≡ 4 → Sources.inside t L B ≡ true → (B ≡ L) ⊎ ((L < B) × (B ≤ endOf t L))
   unfolding Sources.inside

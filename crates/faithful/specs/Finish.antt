@@ -1,7 +1,7 @@
 -- The end: where the reading has ended, the results hold its words, every other wire is empty, every record is zero, and no node is ready.
 --
 --   Laid                      a net is the table's graph, and holds nothing else
---   Loaded, begun             each start's word on its wire, all else empty: the starts may be spread
+--   Loaded, begun             the starts' words on their wires and nothing else: the starts may be spread
 --   Finished                  the results hold the reading's words, all else is empty
 --   finished, rests           so it is where the reading has ended, and nothing is ready there
 --
@@ -207,7 +207,7 @@ module _ (tb : Table) (net : Net) (nodes′ : ℕ) where
     pub all-nodes : (i : ℕ) → i < nodes′ → ((n : Role) × Real tb n × (i ≡ layout .num n)) ⊎ ((w : Wire) × Made (plan tb) w × Among i (layout .forks w))
 
   module _ (y : Laid) where
-    -- the loaded state: each start's word on its wire, all else empty
+    -- the loaded state: the starts' words on their wires, and nothing else
     pub record Loaded (env : Env) (st : List ℕ) : Type 0 where
       pub long : length st ≡ 2 * net .wires + 4 * nodes′
       pub cell : ℕ → Option ℕ

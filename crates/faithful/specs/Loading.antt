@@ -1,4 +1,4 @@
--- The freshly loaded state of a lowered table: each INPUT's and CONST's word on its wire, all else 0; and that is the reading's beginning.
+-- The freshly loaded state of a lowered table: the words of INPUTs and CONSTs on their wires, 0 everywhere else; and that is the reading's beginning.
 --
 --   start-of                  the number of a start's wire is its place among the INPUT and CONST rows
 --   start-word-is             the word loaded there is the reading's first word of that row

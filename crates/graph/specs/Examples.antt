@@ -45,7 +45,7 @@ unfolding graphRefusal hasShape rowsRight startRight rowRight wiresBelow rowBelo
 accepted-graphs = refl
 
 -- A start of no kind, a wrong input number; kind 9; code 30 of a STREAM, code 8 of an OP, code 1 of a GATE; sort 2, a STREAM of sort 1;
--- an absent input not X; a first output number wrong, absent, or present in a DRAIN; W too small, too large.
+-- an absent input that is a wire; a first output that is another number, that is X, or that a DRAIN has; W too small, too large.
 node-faults :
     refusals
     (((4, 2) ∷ [])

@@ -1,4 +1,4 @@
--- A token graph as words: document 01, 'The graph'. `g` is the whole list of words.
+-- A token graph as words: docs/RULES.md, section 'The graph'. `g` is the whole list of words.
 --
 --   nodeCount, wireCount, startCount, resultCount    the header
 --   startKindAt, startWordAt, resultAt, rowPlace     where starts, results and rows stand
@@ -20,11 +20,11 @@ use Rattle.word.specs.Words.{pick, flag}
 use Rattle.step.specs.Kinds.{Kind, kindOf, inputs, outputs, inputSort, outputSort, Input, in0, in1, in2, Output, out0, out1, STREAM, GATE, CARRY, INVARIANT, SPLIT, FORK, DRAIN, OP, PICK}
 use Rattle.graph.specs.Below.{total, joined, length-joined}
 
--- "X = 4,294,967,295 stands for absent."
+-- 'X, which is 4,294,967,295, stands where the kind has no such place.'
 abbrev pub absent : ℕ
 absent = 4294967295
 
--- "Header: nodes n, wires W, starts S, results R."
+-- 'Header: four counts, of nodes n, of wires W, of starts S and of results R.'
 abbrev pub nodeCount : List ℕ → ℕ
 nodeCount g = getD g 0 0
 
@@ -37,22 +37,22 @@ startCount g = getD g 2 0
 abbrev pub resultCount : List ℕ → ℕ
 resultCount g = getD g 3 0
 
--- "S rows of two: 0 and input number (0, 1, .. in order), or 1 and constant."
+-- 'Starts, two words each: 0 and an input number, or 1 and a constant.'
 abbrev pub startKindAt : List ℕ → ℕ → ℕ
 startKindAt g k = getD g (4 + 2 * k) 0
 
 abbrev pub startWordAt : List ℕ → ℕ → ℕ
 startWordAt g k = getD g (5 + 2 * k) 0
 
--- The number of the next input before start k: the inputs among the starts before it.
+-- 'Inputs are numbered 0, 1, .. as they come; constants do not count': the next number before start k.
 abbrev pub inputsBefore : List ℕ → ℕ → ℕ
 inputsBefore g k = total (λ j. flag (eqb (startKindAt g j) 0)) k
 
--- "R result wires."
+-- 'Results, one word each: a wire.'
 abbrev pub resultAt : List ℕ → ℕ → ℕ
 resultAt g k = getD g (4 + 2 * startCount g + k) 0
 
--- "n rows of seven: kind, code, sort (0 word, 1 flag), in0, in1, in2, first output."
+-- 'Nodes, seven words each: kind, code, sort, three input wires, first output wire.'
 abbrev pub rowPlace : List ℕ → ℕ → ℕ
 rowPlace g i = 4 + 2 * startCount g + resultCount g + 7 * i
 
@@ -130,7 +130,7 @@ abbrev pub outputSortOf : Option Kind → ℕ → ℕ → Output → ℕ
 outputSortOf none c s k = s
 outputSortOf (some κ) c s k = outputSort κ c s k
 
--- "Starts are wires 0 to S - 1; output numbers follow on from S, node by node."
+-- 'So node i's first output is S plus the outputs of all nodes before it'.
 abbrev pub outputCount : Option Node → ℕ
 outputCount none = 0
 outputCount (some nd) = outputs (nd .kind)
@@ -141,7 +141,7 @@ outputsBefore g i = total (λ j. outputCount (nodeAt g j)) i
 abbrev pub firstAt : List ℕ → ℕ → ℕ
 firstAt g i = startCount g + outputsBefore g i
 
--- All wires read: by node and input position, then the results.
+-- 'Reads are the inputs by node and position, then the results.'
 abbrev pub listed : Option ℕ → List ℕ
 listed none = []
 listed (some w) = w ∷ []
@@ -155,7 +155,7 @@ results g r = joined (λ k. resultAt g k ∷ []) r
 unfoldable pub reads : List ℕ → List ℕ
 reads g = joined (λ i. nodeReads (nodeAt g i)) (nodeCount g) ++ results g (resultCount g)
 
--- The sort of each wire, at its number: "Starts and results are words", then the outputs by node and position.
+-- The sort of each wire, at its number: 'Starts are words'; then the outputs by node and position.
 abbrev pub outputSorts : Option Node → List ℕ
 outputSorts none = []
 outputSorts (some nd) =

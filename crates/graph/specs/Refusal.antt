@@ -1,4 +1,4 @@
--- The refusals of a graph: document 01, 'Refusal numbers', 11 to 15. Each test is over the whole graph before the next.
+-- The refusals of a graph, 11 to 15: docs/RULES.md, section 'Refusal numbers'. 'Each test is made over the whole graph before the next'.
 --
 --   hasShape       11 SHAPE       the counts are in their limits and the length is theirs
 --   rowsRight      12 NODE        starts and rows are right, and W is S plus all outputs
@@ -22,7 +22,7 @@ use Rattle.graph.specs.Below.{every, times, every-each}
 use Rattle.step.specs.Kept.{and-true}
 use Rattle.graph.specs.Graph.{absent, nodeCount, wireCount, startCount, resultCount, startKindAt, startWordAt, inputsBefore, resultAt, Node, nodeAt, hasInput, wireOn, firstAt, reads, wireSorts, sortAt}
 
--- "under 4 words, counts beyond 4,096 / 8,192 / 512 / 512, length not 4 + 2S + R + 7n"
+-- 11 SHAPE: 'there are at least 4 words; n, W, S, R are at most 4,096, 8,192, 512, 512; the length is 4 + 2S + R + 7n'
 unfoldable pub hasShape : List ℕ → Bool
 hasShape g =
     leb 4 (length g)
@@ -41,8 +41,8 @@ pub record Shaped (g : List ℕ) : Type 0 where
   pub results : resultCount g ≤ 512
   pub whole : length g ≡ 4 + 2 * startCount g + resultCount g + 7 * nodeCount g
 
--- "start row, kind, code or sort wrong, an absent input or output not X, a first output number wrong, or W not S plus all outputs"
--- A start is 0 and its input number, or 1 and any constant.
+-- 12 NODE: 'every start is 0 and its input number, or 1 and any word; every row has a kind from 0 to 8, a code and a sort that the kind may
+-- name, X in each absent input, and as first output the next number, or X for a DRAIN; and W is S plus all outputs'
 unfoldable pub startRight : List ℕ → ℕ → Bool
 startRight g k = pick (eqb (startKindAt g k) 0) (eqb (startWordAt g k) (inputsBefore g k)) (eqb (startKindAt g k) 1)
 
@@ -74,7 +74,7 @@ rowsRight g =
     && (every (nodeCount g) (nodeRight g)
     && eqb (wireCount g) (firstAt g (nodeCount g)))
 
--- "an input or result not below W"
+-- 13 WIRE: 'every present input and every result is below W'
 abbrev pub inputBelow : Kind → Input → ℕ → ℕ → Bool
 inputBelow κ k w wires = pick (hasInput κ k) (ltb w wires) true
 
@@ -91,14 +91,14 @@ resultBelow g k = ltb (resultAt g k) (wireCount g)
 unfoldable pub wiresBelow : List ℕ → Bool
 wiresBelow g = every (nodeCount g) (nodeBelow g) && every (resultCount g) (resultBelow g)
 
--- "a wire not read once"
+-- 14 READERS: 'every wire below W stands exactly once among the reads'
 abbrev pub onceRead : List ℕ → ℕ → Bool
 onceRead g w = eqb (times w (reads g)) 1
 
 unfoldable pub readOnce : List ℕ → Bool
 readOnce g = every (wireCount g) (onceRead g)
 
--- "sorts differ"
+-- 15 SORT: 'every present input has the sort of its wire, and every result's wire is a word'
 abbrev pub inputSorted : List ℕ → Kind → ℕ → Input → ℕ → Bool
 inputSorted sorts κ s k w = pick (hasInput κ k) (eqb (getD sorts w 0) (inputSort κ s k)) true
 
@@ -115,7 +115,7 @@ resultSorted g k = eqb (sortAt g (resultAt g k)) 0
 unfoldable pub sortsAgree : List ℕ → Bool
 sortsAgree g = every (nodeCount g) (nodeSorted g) && every (resultCount g) (resultSorted g)
 
--- "Graphs: 11 to 15 in that order". A `let` waits, so no row is read before the counts are right.
+-- 'the first that fails gives the number'; 'The counts are looked at before any row', since a `let` waits.
 unfoldable pub graphRefusal : List ℕ → ℕ
 graphRefusal g =
     let sort : ℕ = pick (sortsAgree g) 0 15 in

@@ -1,4 +1,4 @@
--- The sum table's graph, the 102 words of document 01, 'Register of cases': header; starts; result; thirteen rows.
+-- The sum table's graph: 'Its graph has 102 words.' Header; starts; result; thirteen rows.
 -- Assumes nothing.
 use Prim.Native.Nat.{ℕ}
 use mathlib.Core.List.{List, [], _∷_}

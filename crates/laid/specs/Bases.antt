@@ -232,7 +232,7 @@ module _ (t : List ℕ) (S : Structure t) where
       let b : length (cond (isStart t v) (v ∷ []) []) ≡ 1 = ap (λ (b : Bool). length (cond b (v ∷ []) [])) (h v (omega arith)) in
       omega arith
 
-  -- 'INPUT and CONST come before all other kinds', so row v is the v-th of them
+  -- 'No other kind stands above an INPUT or CONST', so row v is the v-th of them
   pub start-number : (v : ℕ) → v < size t → kindOf t v ≤ 1 → wireNumber t (start v) ≡ v
   unfolding wireNumber wires starts startRows
   start-number v l k =

@@ -192,7 +192,7 @@ module _ (t : List ℕ) (S : Structure t) where
             inside-by t (bodyOf t L) x (P .open-in x (omega arith) (omega arith))
       ]
 
-  -- 'the copy's own source is found one loop further out each time'
+  -- 'the copy takes from the wire of v in the body around, so its origin is found loop by loop going outward'
   pub copy-is-reached : (L v : ℕ) → L < size t → kindOf t L ≡ 4 → carried t L v ≡ true → Reached v (reads t L)
   copy-is-reached L v less k c = subst (Reached v) (sym (S .reads-body L (λ z. omega arith))) (elim (ℕ-discrete (home t v) (bodyOf t L)) [ yes e ↦ inl e | no n ↦ go n ])
     where

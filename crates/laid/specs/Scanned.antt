@@ -1,10 +1,10 @@
 -- What a program keeps going down the rows of a table that passes, with no stack: the body before each row from the row before, and the
--- loops that a value passes on its way in, found one loop further out each time.
+-- loops that a value passes on its way in, found loop by loop going outward.
 --
 --   body-first, body-after-for, body-after-end, body-after-other      the body before a row
 --   Walks                         loop L is passed on the way from body B out to the home of v
 --   walk-stops                    at home nothing is passed; elsewhere (`here`, `further`) B, and what the body around B passes
---   walked-is-carried, carried-is-walked      'carried into L' is: passed on the way of some operand
+--   walked-is-carried, carried-is-walked      carried into L is: passed on the way of some operand
 --
 -- Assumes nothing.
 use Prim.Native.Nat.{ℕ, zero, suc, _<_}

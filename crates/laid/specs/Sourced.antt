@@ -37,18 +37,19 @@ use Rattle.laid.specs.Wired.{valueNumber, value-by-number}
 abbrev pub operandNumber : List ℕ → ℕ → ℕ → ℕ
 operandNumber t r j = valueNumber t (operand t r j) (reads t r)
 
--- 'SPLIT(guard, value), INVARIANT(gated condition, true leg)'
+-- a copy: 'the guard, and v in the body around'; 'the gated condition, and the true leg of that SPLIT'
 abbrev pub copySources : List ℕ → ℕ → ℕ → List ℕ
 copySources t L v =
     (wireBase t L + 4) ∷ valueNumber t v (reads t L) ∷ (wireBase t L + 3) ∷ (wireBase t L + (5 + (3 * copyPlace t L v + 0))) ∷ []
 
--- 'STREAM(start, step, bound); GATE(raw index, raw condition); a guard ..; then for each carried-in value'
+-- STREAM, GATE, the guard; then the copies 'for each v carried in, from the lowest row up'
 abbrev pub forSources : List ℕ → ℕ → List ℕ
 forSources t L =
     operandNumber t L 0 ∷ operandNumber t L 1 ∷ operandNumber t L 2 ∷ (wireBase t L + 0) ∷ (wireBase t L + 1)
     ∷ operandNumber t L 0 ∷ operandNumber t L 2 ∷ each (copySources t L) (carriedInto t L)
 
--- 'CARRY(raw condition, initial, next), SPLIT(raw condition, carry)'
+-- CARRY: 'the raw condition, the initial word in the body around, and what its NEXT names in the loop'; SPLIT: 'the raw condition and the
+-- CARRY's word'
 abbrev pub argSources : List ℕ → ℕ → List ℕ
 argSources t a =
     (wireBase t (bodyOf t a) + 1) ∷ operandNumber t a 0 ∷ operandNumber t (nextOf t a) 0

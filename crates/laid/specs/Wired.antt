@@ -33,7 +33,7 @@ homeNumber t v =
     (cond (leb (kindOf t v) 3) (wireBase t v)
     (cond (eqb (kindOf t v) 4) (wireBase t v + 2) (cond (eqb (kindOf t v) 5) (wireBase t v + 1) (wireBase t (argOf t v) + 2))))
 
--- elsewhere the copy made for this loop: behind the loop's five wires, the third of its three
+-- elsewhere this loop's copy: behind the loop's five wires, the third of its three
 unfoldable pub valueNumber : List ℕ → ℕ → ℕ → ℕ
 valueNumber t v B = cond (eqb (home t v) B) (homeNumber t v) (wireBase t B + (5 + (3 * copyPlace t B v + 2)))
 

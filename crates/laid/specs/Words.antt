@@ -1,4 +1,4 @@
--- The words of a lowered table, read back as document 01's graph reads them: counts, starts, results, nodes.
+-- The words of a lowered table, read back as a graph's words are read: counts, starts, results, nodes.
 --
 --   node-at           node i is the i-th lowered node
 --   start-kind-at, start-word-at      start k is the k-th INPUT or CONST row's

@@ -77,7 +77,7 @@ fn put_row(
     put(rows, 7 * i + 6, first);
 }
 
-// The copy of a value for a loop whose nodes start at i and wires at w: SPLIT(guard, value), INVARIANT(gated condition, true leg).
+// The copy of a value for a loop whose nodes start at i and wires at w: its SPLIT on the guard, its INVARIANT on the gated condition.
 fn lay_copy(rows: &mut [u32; 28672], i: u32, w: u32, place: u32, sort: u32, outer: u32)
     requires { ⌜ (i + (5 + 2 * place) ≤ 4096) × (w ≤ 100000000) ⌝ }
     ensures { λ u. ⌜ now (rows .exit) ≡ copyRows (now (rows .entry)) i w place sort outer ⌝ }
@@ -141,7 +141,7 @@ fn enter(
     w + 7 + 3 * place
 }
 
-// The wire on which value v comes to body b: at home its own; else that of the copy made for loop b, its own source found one loop further out.
+// The wire on which value v comes to body b: at home its own; else that of loop b's copy, whose source is found in the body around.
 fn resolve(
     table: &[u32],
     bodies: &[u32; 512],
@@ -349,7 +349,7 @@ fn lay_pick(
     put_row(rows, i, PICK, 0, 0, a, b, c, w);
 }
 
-// FOR: STREAM(start, step, bound), GATE(raw index, raw condition), and a guard, an OP comparing start with bound.
+// FOR: its STREAM, its GATE and its guard.
 fn lay_loop(
     table: &[u32],
     nodes: &[u32; 512],
@@ -383,7 +383,7 @@ fn lay_loop(
     );
 }
 
-// ARG: CARRY(raw condition, initial, next), SPLIT(raw condition, carry).
+// ARG: its CARRY, and the SPLIT of the CARRY's word, both on the raw condition.
 fn lay_arg(
     bodies: &[u32; 512],
     pairs: &[u32; 512],

@@ -1,6 +1,6 @@
 -- Tables lowered by computing: the register's two, and one for each thing that a table may hold.
 --
---   sum-table-lowers-to-the-102-words     as document 01 prints them
+--   sum-table-lowers-to-the-102-words     as the register asks
 --   p12-lowers                            loops in loops, values carried in
 --   input-out-has-no-nodes, unused-values-are-drained, eight-loops-lower, a-carried-flag-keeps-its-sort
 --   one-word-short, refusal-writes-nothing, two-words-left, length-is-answered      the answers, and the lent words
@@ -30,12 +30,12 @@ unfoldable pub lowering-computes : ℕ
 unfolding operandCount firstOperand sortOf after stackAt bodyOf readStack reads homeBy home ends endFrom endOf argsFrom argsOf argOf nextOf gathered those some? each position sameRole sameOutput sameInput sameWire sameUse inside names carried homeWire valueWire feed source carriedInto rowRoles roles startRows starts wires wireNumber outRows uses readersIn users legOf plainNodes plainWires allUsers standsOn loweredNodes nodeTotal wireTotal startTotal resultTotal loweredWords native.Mathlib.Decide.ℕ-discrete
 lowering-computes = 0
 
--- 'Its graph, 102 words'
+-- 'Its graph has 102 words.'
 pub sum-table-lowers-to-the-102-words : loweredWords sumTable ≡ sumGraph
 unfolding lowering-computes sumGraph
 sum-table-lowers-to-the-102-words = refl
 
--- The graph of P12's table, 35 nodes, as an executable model of document 01 wrote it
+-- The graph of P12's table, 35 nodes, as an executable model of the rules, tests/model.py, wrote it
 unfoldable pub p12Graph : List ℕ
 p12Graph =
     35 ∷ 57 ∷ 3 ∷ 1 ∷
@@ -84,7 +84,7 @@ pub p12-lowers : loweredWords p12Table ≡ p12Graph
 unfolding lowering-computes p12Graph
 p12-lowers = refl
 
--- 'INPUT; OUT 0 has no nodes.'
+-- 'an INPUT with an OUT of it lowers to a graph without nodes'
 pub input-out-has-no-nodes : loweredWords (input (out 0)) ≡ 0 ∷ 1 ∷ 1 ∷ 1 ∷ 0 ∷ 0 ∷ 0 ∷ []
 unfolding lowering-computes
 input-out-has-no-nodes = refl
@@ -135,7 +135,7 @@ pub a-carried-flag-keeps-its-sort : loweredWords flagTable ≡ flagGraph
 unfolding lowering-computes flagGraph
 a-carried-flag-keeps-its-sort = refl
 
--- 'With row 2 changed to CONST 0': one word of the graph changes
+-- 'With a CONST 0 for its step' one word of the graph changes
 pub changed-row-changes-its-start : loweredWords (sumBy 0) ≡ set sumGraph 9 0
 unfolding lowering-computes sumGraph
 changed-row-changes-its-start = refl
@@ -149,7 +149,7 @@ pub sum-table-has-room : checkAnswer sumTable ≡ answer 0 0
 unfolding lowering-computes checking-computes
 sum-table-has-room = refl
 
--- 'or the lent words': 101 are too few, 'row count' 9, 'all lent memory is unchanged'
+-- 'the graph's words are no more than are lent': 101 are too few, and the row count is 9; a refusal 'leaves every lent word as it was'
 pub one-word-short : lowerAnswer sumTable 101 ≡ record { number = ROOM; row = 9; length = 0 }
 unfolding lowering-computes checking-computes
 one-word-short = refl
@@ -158,7 +158,7 @@ pub refusal-writes-nothing : lentAfter sumTable (replicate 101 7) ≡ replicate 
 unfolding lowering-computes checking-computes
 refusal-writes-nothing = refl
 
--- 'Lowering writes the graph first, leaves the rest of the lent words, and answers the length.'
+-- 'leaves the lent words behind it, and answers how many it wrote'
 pub two-words-left : lentAfter sumTable (replicate 104 7) ≡ sumGraph ++ (7 ∷ 7 ∷ [])
 unfolding lowering-computes checking-computes sumGraph
 two-words-left = refl

@@ -1,4 +1,4 @@
--- THE GRAPH OF A TABLE: document 01, 'Lowering' and 'The graph'.
+-- THE GRAPH OF A TABLE: docs/RULES.md, from 'Nodes, row by row' to 'The words'.
 --
 --   roles, wires, uses            the nodes, wires and uses before forks, in order; a number is a place in its list
 --   users                         the uses of a wire, in order
@@ -22,27 +22,27 @@ use Rattle.lowered.specs.Sources.{carried, isOp, isFor, isArgRow, source
 
 -- ---- nodes
 
--- 'for each carried-in value by rising row'
+-- 'for each v carried in, from the lowest row up'
 unfoldable pub carriedInto : List ℕ → ℕ → List ℕ
 carriedInto t L = those (carried t L) (size t)
 
--- 'SPLIT(guard, value), INVARIANT(gated condition, true leg)'
+-- its SPLIT and its INVARIANT
 abbrev pub copy : ℕ → ℕ → List Role
 copy L v = copySplit L v ∷ copyInvariant L v ∷ []
 
--- 'OP, PICK: one node. FOR: STREAM; GATE; a guard; then for each carried-in value ... ARG: CARRY, SPLIT. Others: none.'
+-- 'each row lays down its nodes in this order'
 unfoldable pub rowRoles : List ℕ → ℕ → List Role
 rowRoles t r =
     cond (isOp t r) (opNode r ∷ [])
     (cond (isFor t r) (stream r ∷ gate r ∷ guard r ∷ each (copy r) (carriedInto t r))
     (cond (isArgRow t r) (carry r ∷ argSplit r ∷ []) []))
 
--- 'Nodes, row by row'
+-- 'Going down the table, each row lays down its nodes'
 unfoldable pub roles : List ℕ → List Role
 roles t = gathered (rowRoles t) (size t)
 
--- the kind of each node, its code and its sort: 'Code: STREAM 5 × update + condition; OP its code; else 0. Sort is the value's; 0 for
--- STREAM, OP, PICK.' The guard's operator is the loop's condition; 'operators: .. 3 to 7 the five conditions in that order'.
+-- The columns of that table: kind, code and sort. STREAM: '5 × update + condition'. The guard asks the loop's condition, as an operator: '3 +
+-- condition'.
 abbrev pub roleKind : List ℕ → Role → Kind
 roleKind t (opNode r) = cond (eqb (kindOf t r) Rows.OP) OP PICK
 roleKind t (stream L) = STREAM
@@ -78,7 +78,7 @@ roleSort t (argSplit a) = 0
 abbrev pub isStart : List ℕ → ℕ → Bool
 isStart t r = leb (kindOf t r) CONST
 
--- 'INPUT and CONST rows in order'
+-- 'the INPUT and CONST rows as they stand'
 unfoldable pub startRows : List ℕ → List ℕ
 startRows t = those (isStart t) (size t)
 
@@ -93,7 +93,7 @@ outputsBy n (suc (suc k)) = output n out0 ∷ output n out1 ∷ []
 abbrev pub roleOutputs : List ℕ → Role → List Wire
 roleOutputs t n = outputsBy n (outputs (roleKind t n))
 
--- 'Wires are numbered: INPUT and CONST rows in order, then outputs by node and position.'
+-- 'the INPUT and CONST rows as they stand, then the outputs of these nodes by node and position'
 unfoldable pub wires : List ℕ → List Wire
 wires t = starts t ++ each (roleOutputs t) (roles t)
 
@@ -122,7 +122,7 @@ isOut t r = eqb (kindOf t r) OUT
 unfoldable pub outRows : List ℕ → List ℕ
 outRows t = those (isOut t) (size t)
 
--- 'uses (by node and input position, then OUT rows)'
+-- 'the inputs by node and position, then the OUT rows'
 unfoldable pub uses : List ℕ → List Use
 uses t = each (roleUses t) (roles t) ++ each (λ q. useIf t (result q)) (outRows t)
 
@@ -150,8 +150,9 @@ drainNode s x = record { kind = DRAIN; code = 0; sort = s; wire0 = x; wire1 = ab
 abbrev pub forkNode : ℕ → ℕ → ℕ → Node
 forkNode s x f = record { kind = FORK; code = 0; sort = s; wire0 = x; wire1 = absent; wire2 = absent; first = f }
 
--- 'k = 0 adds one DRAIN; k > 1 adds k - 1 FORKs, each giving its first leg to the next use and its second to the rest.' Wire x of sort s
--- has these uses, and the next free wire number is f.
+-- 'A wire without a use gets a DRAIN, a wire with one use nothing, and any other one FORK fewer than it has uses. The first FORK reads the
+-- wire; the first leg of each goes to the use that is next in order, and the next FORK reads its second leg'. Wire x of sort s has these uses, and
+-- the next free wire number is f.
 abbrev pub forkRows : ℕ → ℕ → List Use → ℕ → List Node
 forkRows s x [] f = drainNode s x ∷ []
 forkRows s x (u ∷ []) f = []
@@ -178,7 +179,7 @@ legOf p x [] f = x
 legOf p x (u ∷ []) f = x
 legOf p x (u ∷ v ∷ us) f = legBy (sameUse p u) f (legOf p (suc f) (v ∷ us) (suc (suc f)))
 
--- 'Then for every wire so far, in wire order': the first free number when wire i's turn comes, counting from f
+-- 'Then each of these wires has its turn, in the order of their numbers.' The first free number when wire i has its turn, counting from f.
 abbrev pub freeAt : List (List Use) → ℕ → ℕ → ℕ
 freeAt [] f i = f
 freeAt (us ∷ rest) f zero = f
@@ -228,7 +229,7 @@ roleNode t f n =
       first = f;
     }
 
--- 'output numbers follow on from S, node by node'
+-- first outputs: 'S plus the outputs of all nodes before it'
 abbrev pub nodesFrom : List ℕ → ℕ → List Role → List Node
 nodesFrom t f [] = []
 nodesFrom t f (n ∷ ns) = roleNode t f n ∷ nodesFrom t (f + outputs (roleKind t n)) ns
@@ -240,7 +241,7 @@ forksFrom t x (w ∷ ws) f = forkRows (wireSort t w) x (users t w) f ++ forksFro
 unfoldable pub loweredNodes : List ℕ → List Node
 loweredNodes t = nodesFrom t (length (starts t)) (roles t) ++ forksFrom t 0 (wires t) (plainWires t)
 
--- 'S rows of two: 0 and input number (0, 1, .. in order), or 1 and constant.'
+-- 'of an INPUT, 0 and its number among the inputs, and of a CONST, 1 and its word'
 abbrev pub startWords : List ℕ → ℕ → List ℕ
 startWords t r = cond (eqb (kindOf t r) INPUT) (0 ∷ length (those (λ q. eqb (kindOf t q) INPUT) r) ∷ []) (1 ∷ word t r 1 ∷ [])
 
@@ -255,7 +256,7 @@ kindNumber DRAIN = 6
 kindNumber OP = 7
 kindNumber PICK = 8
 
--- 'n rows of seven: kind, code, sort (0 word, 1 flag), in0, in1, in2, first output'
+-- 'kind, code, sort, the wires of its three inputs or X, its first output or X'
 abbrev pub nodeWords : Node → List ℕ
 nodeWords nd =
     kindNumber (nd .kind) ∷ nd .code ∷ nd .sort ∷ nd .wire0 ∷ nd .wire1 ∷ nd .wire2 ∷ nd .first ∷ []
@@ -272,7 +273,7 @@ startTotal t = length (startRows t)
 unfoldable pub resultTotal : List ℕ → ℕ
 resultTotal t = length (outRows t)
 
--- 'Header: nodes n, wires W, starts S, results R. S rows of two. R result wires. n rows of seven.'
+-- 'the four counts; two words for each start; the wire of each OUT row's use; seven words for each node'
 unfoldable pub loweredWords : List ℕ → List ℕ
 loweredWords t =
     nodeTotal t ∷ wireTotal t ∷ startTotal t ∷ resultTotal t

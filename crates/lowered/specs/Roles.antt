@@ -1,4 +1,4 @@
--- The nodes, wires and uses of a lowered table, named by what they are for: document 01, 'Lowering'.
+-- The nodes, wires and uses of a lowered table, named by what they are for: docs/RULES.md, 'Nodes, row by row'.
 --
 --   Role                          a node, by the row it is laid down for
 --   Wire, Use                     a start or an output; an input or a result

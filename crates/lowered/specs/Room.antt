@@ -1,4 +1,4 @@
--- What the two entries answer: document 01, 'Refusal numbers', 10, and the last paragraph there.
+-- What the two entries answer: docs/RULES.md, section 'Refusal numbers', 10.
 --
 --   hasRoom               the four counts are in their limits
 --   checkAnswer           check_table: 1 to 9, then 10 by the counts alone
@@ -19,23 +19,22 @@ use Rattle.lowered.specs.Lower.{nodeTotal, wireTotal, startTotal, result
 abbrev pub ROOM : ℕ
 ROOM = 10
 
--- 'over 4,096 nodes, 8,192 wires, 512 starts, 512 results'
+-- 'n is at most 4,096, W at most 8,192, and S and R at most 512'
 unfoldable pub hasRoom : List ℕ → Bool
 hasRoom t =
     leb (nodeTotal t) 4096 && (leb (wireTotal t) 8192 && (leb (startTotal t) 512 && leb (resultTotal t) 512))
 
--- '.. or the lent words'
+-- '`lower` asks besides that the graph's words are no more than are lent'
 unfoldable pub fitsInto : List ℕ → ℕ → Bool
 fitsInto t lent = hasRoom t && leb (length (loweredWords t)) lent
 
--- '1 first; 2 to 8 row by row, lowest number within a row; then 9, 10', with the row count as 10's row. A `let` waits, so nothing is
--- lowered before the table has passed.
+-- 'After 1 to 9, ROOM is refused', and 'The row is the row count'. A `let` waits, so nothing is lowered before the table has passed.
 unfoldable pub refusedBy : List ℕ → Bool → Refusal
 refusedBy t room =
     let last : Refusal = cond room (answer 0 0) (answer ROOM (size t)) in
     cond (eqb (tableRefusal t .number) 0) last (tableRefusal t)
 
--- 'A table check has no lent words, so its 10 is the counts alone.'
+-- '`check_table` is lent no words, so it looks at the counts alone.'
 unfoldable pub checkAnswer : List ℕ → Refusal
 checkAnswer t = refusedBy t (hasRoom t)
 
@@ -57,7 +56,7 @@ lowerAnswer t lent =
       length = cond (eqb (lowerRefusal t lent .number) 0) done 0;
     }
 
--- 'Lowering writes the graph first, leaves the rest of the lent words'; 'all lent memory is unchanged' where it refuses.
+-- 'it writes the graph from the first lent word on, leaves the lent words behind it'; a refusal 'leaves every lent word as it was'.
 unfoldable pub lentAfter : List ℕ → List ℕ → List ℕ
 lentAfter t lent =
     let written : List ℕ = sets lent 0 (loweredWords t) in

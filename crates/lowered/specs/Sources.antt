@@ -1,4 +1,4 @@
--- Where each input and each result of a lowered table comes from: document 01, 'Lowering', its first paragraph and the list of nodes.
+-- Where each input and each result of a lowered table comes from: docs/RULES.md, sections 'Carried in' and 'Nodes, row by row'.
 --
 --   inside, carried       which values are carried into a loop
 --   valueWire             the wire on which a value comes to a body
@@ -27,13 +27,13 @@ inside t L B = eqb B L || holds L (stackAt t B)
 unfoldable pub names : List ℕ → ℕ → ℕ → Bool
 names t r v = some? (λ j. eqb (operand t r j) v) (operandCount (kindOf t r))
 
--- '"Carried into L": each value whose home is outside L and which is an operand inside L at any depth, L's NEXTs included, L's own FOR
--- and ARG operands not.' An operand is where it is read: a NEXT's in its loop, those of FOR and ARG in the body around.
+-- 'Value v is carried into loop L if its home is neither L nor a loop in L, and some row whose operands are read in L or in a loop in L names
+-- v.' A NEXT's operand is read in its loop, those of FOR and ARG in the body around.
 unfoldable pub carried : List ℕ → ℕ → ℕ → Bool
 carried t L v = not (inside t L (home t v)) && some? (λ r. inside t L (reads t r) && names t r v) (size t)
 
--- A value's wire at home. INPUT and CONST are starts. OP, PICK: one node. 'The index is GATE's value.' Of an ARG's SPLIT the 'true leg
--- is the ARG, false leg the exit word'; the exit word is the NEXT's value.
+-- 'At home a value has its own wire.' INPUT and CONST: 'its start'. OP, PICK: 'the value of its node'. FOR: 'the value of its GATE'. ARG: 'the
+-- true leg of its SPLIT'. NEXT: 'the false leg of its ARG's SPLIT'.
 unfoldable pub homeWire : List ℕ → ℕ → Wire
 homeWire t v =
     cond (leb (kindOf t v) CONST) (start v)
@@ -41,7 +41,7 @@ homeWire t v =
     (cond (eqb (kindOf t v) FOR) (output (gate v) out0)
     (cond (eqb (kindOf t v) ARG) (output (argSplit v) out0) (output (argSplit (argOf t v)) out1))))
 
--- 'Where a body uses a value of an outer body, its source is the copy made for this loop.'
+-- 'In any other body its wire is the copy of it that this loop makes'.
 unfoldable pub valueWire : List ℕ → ℕ → ℕ → Wire
 valueWire t v B = cond (eqb (home t v) B) (homeWire t v) (output (copyInvariant B v) out0)
 
@@ -75,49 +75,49 @@ has t (copyInvariant L v) = isFor t L && carried t L v
 has t (carry a) = isArgRow t a
 has t (argSplit a) = isArgRow t a
 
--- OP x, y; PICK flag, x, y
+-- OP: 'x and y in the row's body'. PICK: 'flag, x and y in the row's body'.
 abbrev pub opFeed : List ℕ → ℕ → Input → Feed
 opFeed t r in0 = named t r 0
 opFeed t r in1 = named t r 1
 opFeed t r in2 = cond (eqb (kindOf t r) PICK) (named t r 2) nothing
 
--- 'STREAM(start, step, bound)'
+-- STREAM: 'start, step and bound in the body around'
 abbrev pub streamFeed : List ℕ → ℕ → Input → Feed
 streamFeed t L in0 = named t L 0
 streamFeed t L in1 = named t L 1
 streamFeed t L in2 = named t L 2
 
--- 'GATE(raw index, raw condition)'
+-- GATE: 'the raw index and the raw condition'
 abbrev pub gateFeed : ℕ → Input → Feed
 gateFeed L in0 = inner (output (stream L) out0)
 gateFeed L in1 = inner (output (stream L) out1)
 gateFeed L in2 = nothing
 
--- 'a guard, an OP comparing start with bound by the loop's condition'
+-- guard: 'start and bound in the body around'
 abbrev pub guardFeed : List ℕ → ℕ → Input → Feed
 guardFeed t L in0 = named t L 0
 guardFeed t L in1 = named t L 2
 guardFeed t L in2 = nothing
 
--- 'SPLIT(guard, value)': 'the copy's own source is found one loop further out each time'
+-- SPLIT of a copy: 'the guard, and v in the body around'
 abbrev pub copySplitFeed : List ℕ → ℕ → ℕ → Input → Feed
 copySplitFeed t L v in0 = inner (output (guard L) out0)
 copySplitFeed t L v in1 = value v (reads t L)
 copySplitFeed t L v in2 = nothing
 
--- 'INVARIANT(gated condition, true leg)'
+-- INVARIANT: 'the gated condition, and the true leg of that SPLIT'
 abbrev pub copyInvariantFeed : ℕ → ℕ → Input → Feed
 copyInvariantFeed L v in0 = inner (output (gate L) out1)
 copyInvariantFeed L v in1 = inner (output (copySplit L v) out0)
 copyInvariantFeed L v in2 = nothing
 
--- 'CARRY(raw condition, initial, next)'
+-- CARRY: 'the raw condition, the initial word in the body around, and what its NEXT names in the loop'
 abbrev pub carryFeed : List ℕ → ℕ → Input → Feed
 carryFeed t a in0 = inner (output (stream (bodyOf t a)) out1)
 carryFeed t a in1 = named t a 0
 carryFeed t a in2 = named t (nextOf t a) 0
 
--- 'SPLIT(raw condition, carry)'
+-- SPLIT of an ARG: 'the raw condition and the CARRY's word'
 abbrev pub argSplitFeed : List ℕ → ℕ → Input → Feed
 argSplitFeed t a in0 = inner (output (stream (bodyOf t a)) out1)
 argSplitFeed t a in1 = inner (output (carry a) out0)

@@ -1,4 +1,4 @@
-// The entries on tables, called as standard input lists them: document 01's tables, every refusal from 1 to 10, the limits, and runs of lowered tables.
+// The entries on tables, called as standard input lists them: the register's tables, every refusal from 1 to 10, the limits, and runs of lowered tables.
 use libc::STDOUT_FILENO;
 
 fn main() {

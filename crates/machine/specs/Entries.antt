@@ -1,14 +1,14 @@
--- The entries load and fire: document 01, 'Refusal numbers' and 'What the promises settle here'. Each fixes its answer and every lent word, for
--- any words at all. "Graphs: 11 to 15 in that order, then 17, then 16 (loading) or 18 (firing, run)."
+-- The entries load and fire: docs/RULES.md, sections 'Firing' and 'Refusal numbers'. Each fixes its answer and every lent word, for any words at
+-- all. 'A graph is looked at first, by 11 to 15; then comes 17; then 16 for load, 18 for fire and run.'
 --
 --   stateRefusal                      11 to 15, then 17 for a state that is not legal
 --   loadRefusal, loadState            the number that load answers, and the state after it
 --   fireRefusal, fireAnswer, fireState
---   firedNumber, firedRow, firedFlag  the paper's number for each case of the answer of fire; fire-number, fire-flag: of the answer itself
+--   firedNumber, firedRow, firedFlag  the number for each case of the answer of fire; fire-number, fire-flag: of the answer itself
 --   FireAnswer, LoadAnswer            what fire and load promise
 --   Fit, Given                        what the inner functions rely on
 --
--- "All lent memory is unchanged" by a refusal: each of the states is the lent one where its number is not 0.
+-- 'It leaves every lent word as it was': each of the states is the lent one where its number is not 0.
 -- Assumes nothing.
 use Prim.Native.Nat.{ℕ}
 use mathlib.Core.Path.{_≡_, refl, sym, ap, _∙_}
@@ -31,18 +31,18 @@ use Rattle.machine.specs.declared.Fired.the-variants.{Refused, NotReady,
 abbrev pub first : ℕ → ℕ → ℕ
 first a b = pick (eqb a 0) b a
 
--- 17 STATE: "length not 2W + 4n; except for loading, not legal"
+-- 17 STATE: 'the state's length is not 2W + 4n; for fire and run also: the state is not legal'
 unfoldable pub stateRefusal : List ℕ → List ℕ → ℕ
 stateRefusal g s = first (graphRefusal g) (pick (legal g s) 0 17)
 
--- 16 INPUTS: "not one word per input"
+-- 16 INPUTS: 'loading: there are more or fewer input words than inputs among the starts'
 unfoldable pub loadRefusal : List ℕ → List ℕ → List ℕ → ℕ
 loadRefusal g inputs s = first (graphRefusal g) (first (pick (rightLength g s) 0 17) (pick (eqb (length inputs) (inputCount g)) 0 16))
 
 unfoldable pub loadState : List ℕ → List ℕ → List ℕ → List ℕ
 loadState g inputs s = pick (eqb (loadRefusal g inputs s) 0) (loaded g inputs) s
 
--- 18 ORDER: "a node number not below n"
+-- 18 ORDER: 'fire: the node is not below n'
 unfoldable pub fireRefusal : List ℕ → List ℕ → ℕ → ℕ
 fireRefusal g s i = first (stateRefusal g s) (pick (ltb i (nodeCount g)) 0 18)
 
@@ -52,13 +52,13 @@ fireAnswer g s i = pick (eqb (fireRefusal g s i) 0) (pick (isReady (fire (netOf 
 unfoldable pub fireState : List ℕ → List ℕ → ℕ → List ℕ
 fireState g s i = pick (eqb (fireRefusal g s i) 0) (orElse (fire (netOf g) i s) s) s
 
--- The answer of fire, as the paper numbers it: the refusal's number or 0, and whether the node fired
+-- The answer of fire by number: the refusal's number or 0, and whether the node fired
 abbrev pub firedNumber : Fired → ℕ
 firedNumber (Refused n) = n
 firedNumber NotReady = 0
 firedNumber Done = 0
 
--- "a row": 0 for 11 to 18
+-- 'its row is 0 for 11 to 18'
 abbrev pub firedRow : Fired → ℕ
 firedRow r = 0
 
@@ -67,7 +67,7 @@ firedFlag (Refused n) = false
 firedFlag NotReady = false
 firedFlag Done = true
 
--- ---- the paper's numbers of the answer of fire
+-- ---- the numbers of the answer of fire
 
 chosen : (b : Bool) (k : ℕ) (t : Bool) → eqb k 0 ≡ b
     → (firedNumber (pick b (pick t Done NotReady) (Refused k)) ≡ k) × (firedFlag (pick b (pick t Done NotReady) (Refused k)) ≡ pick b t false)

@@ -257,7 +257,7 @@ fn fill(graph: &[u32], inputs: &[u32], state: &mut [u32])
     }
 }
 
-// Loads a graph: each start's word on its wire, all else 0. What the state held before does not matter.
+// Loads a graph: the starts' words on their wires, 0 everywhere else. What the state held before does not matter.
 pub fn load(graph: &[u32], inputs: &[u32], state: &mut [u32]) -> u32
     ensures answer { λ r. ⌜ LoadAnswer (now (graph .entry)) (now (inputs .entry)) (now (state .entry)) r (now (state .exit)) ⌝ }
 {

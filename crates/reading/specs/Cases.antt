@@ -16,37 +16,37 @@ reading-computes : ℕ
 unfolding condition update operate after stackAt bodyOf rowBy rowAt ends endFrom endOf argsFrom argsOf firstOf isArg isNext argOf nextOf inputsBelow firstWords begin resultsFrom turn leave step readFrom read
 reading-computes = 0
 
--- 'P10 input 5: 10': one opening of the loop at row 3, five turns
+-- P10: one opening of the loop at row 3, five turns, and 10
 pub p10-reads-10 : Reads sumTable (5 ∷ []) (ended (10 ∷ []) (opening 3 5 ∷ []))
 unfolding reading-computes
 p10-reads-10 = record { steps = 30; comes = refl }
 
--- 'P11 input 0: 0': an opening with no turn
+-- P11: an opening with no turn, and 0
 pub p11-reads-0 : Reads sumTable (0 ∷ []) (ended (0 ∷ []) (opening 3 0 ∷ []))
 unfolding reading-computes
 p11-reads-0 = record { steps = 30; comes = refl }
 
--- 'With row 2 changed to CONST 0 and input 5: .. ZERO STEP'
+-- 'With a CONST 0 for its step' the reading meets it at the FOR row
 pub zero-step-at-row-3 : Reads (sumBy 0) (5 ∷ []) (zeroStep 3 [])
 unfolding reading-computes
 zero-step-at-row-3 = record { steps = 30; comes = refl }
 
--- 'P12: .. result 5'. The inner loop has 0, 1 and 2 turns.
+-- P12 gives 5. The inner loop has 0, 1 and 2 turns.
 pub p12-reads-5 : Reads p12Table [] (ended (5 ∷ []) (opening 3 3 ∷ opening 5 0 ∷ opening 5 1 ∷ opening 5 2 ∷ []))
 unfolding reading-computes
 p12-reads-5 = record { steps = 60; comes = refl }
 
--- 'or the initials after no turn': the initial is 7
+-- 'or the ARG's initial word if there was no turn at all': it is 7
 pub no-turn-leaves-the-initial : Reads (input (const 7 (const 1 (loop 2 2 0 0 0 (arg 1 (op 0 4 3 (next 5 (close (out 6))))))))) (0 ∷ []) (ended (7 ∷ []) (opening 3 0 ∷ []))
 unfolding reading-computes
 no-turn-leaves-the-initial = record { steps = 30; comes = refl }
 
--- 'the NEXTs become the ARGs together': two ARGs change places, three times
+-- 'all ARGs change at once to what their NEXTs name': two ARGs change places, three times
 pub args-change-together : Reads (const 0 (const 1 (const 3 (loop 0 1 2 0 0 (arg 0 (arg 1 (next 5 (next 4 (close (row6 8 6 0 0 0 0 (out 7))))))))))) [] (ended (1 ∷ 0 ∷ []) (opening 3 3 ∷ []))
 unfolding reading-computes
 args-change-together = record { steps = 60; comes = refl }
 
--- 'the body runs, the NEXTs become the ARGs together, and the index is updated', in this order: a NEXT takes the index of its own turn
+-- 'then the index takes its update': a NEXT takes the index of its own turn
 pub next-takes-its-turns-index : Reads (const 0 (const 1 (const 3 (loop 0 1 2 0 0 (arg 0 (next 3 (close (out 5)))))))) [] (ended (2 ∷ []) (opening 3 3 ∷ []))
 unfolding reading-computes
 next-takes-its-turns-index = record { steps = 60; comes = refl }

@@ -1,5 +1,6 @@
--- 'Plain reading: rows in order; at FOR a zero step is a fault; otherwise, while index condition bound holds, the body runs, the NEXTs
--- become the ARGs together, and the index is updated. Exit words are the last ARGs, or the initials after no turn.'
+-- 'A table is read from its first row down. A loop whose step is 0 is a fault. Otherwise the body is read once for each turn, as long as the
+-- condition holds between index and bound: first the body's rows, then all ARGs change at once to what their NEXTs name, then the index takes
+-- its update.'
 -- In small steps over the row number and the words of the rows, with the openings so far beside them.
 -- Main names: `Env`, `State`, `begin`, `step`, `read`.
 -- Assumes nothing.
@@ -48,7 +49,7 @@ pub data Step : Type 0 where
 abbrev pub set : ℕ → ℕ → Env → Env
 set r w env x = cond (eqb x r) w (env x)
 
--- 'x if 1, else y'
+-- 'b if the flag is 1, c if it is 0'
 abbrev pub choose : ℕ → ℕ → ℕ → ℕ
 choose zero x y = y
 choose (suc f) x y = x
@@ -63,7 +64,7 @@ unfoldable pub inputsBelow : List ℕ → ℕ → ℕ
 inputsBelow t zero = 0
 inputsBelow t (suc r) = cond (eqb (kindOf t r) INPUT) (suc (inputsBelow t r)) (inputsBelow t r)
 
--- 'next input word', 'that word'; every other row has no word yet
+-- 'the n-th INPUT has the n-th input word, a CONST its word, every other row 0'
 unfoldable pub firstWords : List ℕ → List ℕ → Env
 firstWords t inputs r =
     cond (eqb (kindOf t r) INPUT) (getD inputs (inputsBelow t r) 0) (cond (eqb (kindOf t r) CONST) (word t r 1) 0)
@@ -81,7 +82,7 @@ resultsFrom (suc m) t env r =
 unfoldable pub turn : List ℕ → ℕ → ℕ → Env → Env → Env
 turn t L index args env r = cond (eqb r L) index (cond (isArg t L r) (args r) (env r))
 
--- loop L is left: its NEXTs get their exit words
+-- loop L is left: 'each NEXT has its exit word'
 unfoldable pub leave : List ℕ → ℕ → Env → Env → Env
 leave t L exits env r = cond (isNext t L r) (exits r) (env r)
 

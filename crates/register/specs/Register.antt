@@ -1,6 +1,6 @@
--- Document 01, 'Register of cases': P1 to P12 as one table with one statement, about the written rules themselves.
+-- The register, docs/RULES.md, its last section: P1 to P12 as one table with one statement, 'about the definitions themselves'.
 --
---   register              the cases: what the rules give, and what the paper prints
+--   register              the cases: what the rules give, and what the register prints
 --   register-holds        each case comes out as printed
 --
 -- A machine's case shows the words given on each output, then that nothing is left on its inputs and that it is in its first phase with
@@ -36,7 +36,7 @@ most = 40
 abbrev streams : ℕ → ℕ → ℕ → ℕ → ℕ → List (List ℕ)
 streams s t b u c = shown (drive STREAM (5 * u + c) most (start (s ∷ []) (t ∷ []) (b ∷ [])))
 
--- what the results hold, without the count of firings, which the paper does not print
+-- what the results hold, without the count of firings, which the register does not print
 abbrev results : List (List ℕ) → List (List ℕ)
 results [] = []
 results (a ∷ rest) = rest
@@ -49,42 +49,42 @@ F = 0
 
 abbrev pub register : List Case
 register =
-    -- P1 (0, 1, 5, `+=`, `<`): 0..5, TTTTTF
+    -- P1 from 0 by 1 to 5, `+=`, `<`
     record { given = streams 0 1 5 0 0; printed = rests (0 ∷ 1 ∷ 2 ∷ 3 ∷ 4 ∷ 5 ∷ []) (T ∷ T ∷ T ∷ T ∷ T ∷ F ∷ []) }
-    -- P2 (3, 1, 3, `+=`, `<`): 3, F
+    -- P2 from 3 by 1 to 3, `+=`, `<`
     ∷ record { given = streams 3 1 3 0 0; printed = rests (3 ∷ []) (F ∷ []) }
-    -- P3 (16, 1, 1, `>>=`, `!=`): 16 8 4 2 1, TTTTF
+    -- P3 from 16 by 1 to 1, `>>=`, `!=`
     ∷ record { given = streams 16 1 1 5 4; printed = rests (16 ∷ 8 ∷ 4 ∷ 2 ∷ 1 ∷ []) (T ∷ T ∷ T ∷ T ∷ F ∷ []) }
-    -- P4 (1, 1, 8, `<<=`, `<=`): 1 2 4 8 16, TTTTF
+    -- P4 from 1 by 1 to 8, `<<=`, `<=`
     ∷ record { given = streams 1 1 8 4 1; printed = rests (1 ∷ 2 ∷ 4 ∷ 8 ∷ 16 ∷ []) (T ∷ T ∷ T ∷ T ∷ F ∷ []) }
-    -- P5 (1, 32, 0, `<<=`, `!=`): 1 0, TF
+    -- P5 from 1 by 32 to 0, `<<=`, `!=`
     ∷ record { given = streams 1 32 0 4 4; printed = rests (1 ∷ 0 ∷ []) (T ∷ F ∷ []) }
-    -- P6 (4294967294, 1, 2, `+=`, `<`): 4294967294, F
+    -- P6 from 4,294,967,294 by 1 to 2, `+=`, `<`
     ∷ record { given = streams 4294967294 1 2 0 0; printed = rests (4294967294 ∷ []) (F ∷ []) }
-    -- P7 gate ABCDE, TTTTF: ABCD, TTTF
+    -- P7 GATE: 'values A B C D E, conditions TTTTF'
     ∷ record {
       given = shown (drive GATE 0 most (start (1 ∷ 2 ∷ 3 ∷ 4 ∷ 5 ∷ []) (T ∷ T ∷ T ∷ T ∷ F ∷ []) []));
       printed = rests (1 ∷ 2 ∷ 3 ∷ 4 ∷ []) (T ∷ T ∷ T ∷ F ∷ []);
     }
-    -- P8 carry a AB, b CDEFGH, d TTFTTTTF: ACDBEFGH
+    -- P8 CARRY: 'a A B, b C D E F G H, d TTFTTTTF'
     ∷ record {
       given = shown (drive CARRY 0 most (start (T ∷ T ∷ F ∷ T ∷ T ∷ T ∷ T ∷ F ∷ []) (1 ∷ 2 ∷ []) (3 ∷ 4 ∷ 5 ∷ 6 ∷ 7 ∷ 8 ∷ [])));
       printed = rests (1 ∷ 3 ∷ 4 ∷ 2 ∷ 5 ∷ 6 ∷ 7 ∷ 8 ∷ []) [];
     }
-    -- P9 invariant, same a and d: AAABBBBB
+    -- P9 INVARIANT: 'the same a and d'
     ∷ record {
       given = shown (drive INVARIANT 0 most (start (T ∷ T ∷ F ∷ T ∷ T ∷ T ∷ T ∷ F ∷ []) (1 ∷ 2 ∷ []) []));
       printed = rests (1 ∷ 1 ∷ 1 ∷ 2 ∷ 2 ∷ 2 ∷ 2 ∷ 2 ∷ []) [];
     }
-    -- Sum table. P10 input 5: 10, 58 firings
+    -- P10: 'the sum table, input 5'
     ∷ record { given = ran sumTable (5 ∷ []); printed = (0 ∷ 0 ∷ 58 ∷ []) ∷ (10 ∷ []) ∷ [] }
-    -- P11 input 0: 0, 13 firings
+    -- P11: 'the sum table, input 0'
     ∷ record { given = ran sumTable (0 ∷ []); printed = (0 ∷ 0 ∷ 13 ∷ []) ∷ (0 ∷ []) ∷ [] }
-    -- Its graph, 102 words
+    -- 'Its graph has 102 words.'
     ∷ record { given = loweredWords sumTable ∷ []; printed = sumGraph ∷ [] }
-    -- With row 2 changed to CONST 0 and input 5: 6 firings, ZERO STEP, node 0
+    -- 'input 5 comes to ZERO STEP at node 0 after 6 firings'
     ∷ record { given = ran (sumBy 0) (5 ∷ []); printed = (1 ∷ 0 ∷ 6 ∷ []) ∷ [] ∷ [] }
-    -- P12: result 5
+    -- P12: the nested table gives 5
     ∷ record { given = results (ran p12Table []); printed = (5 ∷ []) ∷ [] }
     ∷ []
 

@@ -1,8 +1,8 @@
--- Document 01's slips of lowering, run: what P12's table would do if a value carried into a loop came without its guard, or if a body
--- invariant were driven by the raw condition. The graphs are written out; lowering writes neither.
+-- Slips of lowering, run: what P12's table would do if a value carried into a loop came without its guard, or if its
+-- INVARIANT took the raw condition. The graphs are written out; lowering writes neither.
 --
---   unguarded-gives-2         'an unguarded invariant (P12 gives 2 and strands a token)'
---   raw-driven-gives-nothing  'a body invariant driven by the raw condition'
+--   unguarded-gives-2         'a copy without its guard, with which P12 gives 2 and leaves a token behind'
+--   raw-driven-gives-nothing  'a copy's INVARIANT on the raw condition'
 --
 -- Assumes nothing.
 use Prim.Native.Nat.{ℕ}
@@ -50,7 +50,7 @@ unguarded =
     6 ∷ 0 ∷ 0 ∷ 15 ∷ absent ∷ absent ∷ absent ∷
     6 ∷ 0 ∷ 1 ∷ 17 ∷ absent ∷ absent ∷ absent ∷ []
 
--- each INVARIANT driven by the raw condition
+-- each INVARIANT on the raw condition
 unfoldable rawDriven : List ℕ
 rawDriven =
     39 ∷ 61 ∷ 3 ∷ 1 ∷

@@ -258,7 +258,7 @@ fn put_drawn(out: &mut [u8], graph: &[u32], state: &[u32], ran: Ran) -> Rehearse
     let a = text::put(out, 0, b"// ");
     let b = put_answered(out, a, graph, ran);
     Rehearsed {
-        count: drawn::put_drawing(out, b, graph, state),
+        count: drawn::put_drawing(out, b, graph, state, &[], &[]),
         refused: false,
     }
 }

@@ -1,9 +1,9 @@
--- The entry run: document 01, 'Firing' and 'Refusal numbers'. It fixes its answer, node, firings and every lent word, for any words at all.
+-- The entry run: docs/RULES.md, sections 'Firing' and 'Refusal numbers'. Whatever the words, it fixes the answer, its node, the firings and every lent word.
 --
 --   orderBelow                        no number of the order list is past the last node
 --   runRefusal, runAt, runState       the refusal's number; where the run ends; the state after the call
 --   runFirings, runAnswer             the firings made, and the answer
---   ranNumber, ranRow, ranOutcome, ranFirings      the paper's numbers for each case of the answer
+--   ranNumber, ranRow, ranOutcome, ranFirings      the numbers for each case of the answer
 --
 -- Assumes nothing.
 use Prim.Native.Nat.{ℕ, _-_, _≤_, _<_}
@@ -24,7 +24,7 @@ use Rattle.machine.specs.Entries.{first, stateRefusal}
 use Rattle.run.specs.declared.Ran.{Ran}
 use Rattle.run.specs.declared.Ran.the-variants.{Refused, Spent, Complete, ZeroStep, Stranded}
 
--- 18 ORDER: "a node number not below n", of the whole list before anything fires
+-- 18 ORDER: 'some number of the list is not below n, before anything fires'
 unfoldable pub orderBelow : List ℕ → List ℕ → Bool
 orderBelow g order = every (length order) (λ k. ltb (getD order k 0) (nodeCount g))
 
@@ -52,7 +52,7 @@ unfoldable pub runAnswer : List ℕ → List ℕ → List ℕ → ℕ → Ran
 runAnswer g s order allowance =
     pick (eqb (runRefusal g s order) 0) (ranBy (outcome g (runAt g s order allowance .state)) (runFirings g s order allowance)) (Refused (runRefusal g s order))
 
--- ---- the answer, as the paper numbers it: "firings and node, where an entry has them, are 0" in a refusal
+-- ---- the answer by number. Of a refusal: 'An entry that tells firings or a node answers 0 for them'.
 
 abbrev pub ranNumber : Ran → ℕ
 ranNumber (Refused n) = n
@@ -68,7 +68,7 @@ ranOutcome (Complete f) = record { answer = COMPLETE; node = 0 }
 ranOutcome (ZeroStep f i) = record { answer = ZERO-STEP; node = i }
 ranOutcome (Stranded f) = record { answer = STRANDED; node = 0 }
 
--- "a row": 0 for 11 to 18
+-- 'its row is 0 for 11 to 18'
 abbrev pub ranRow : Ran → ℕ
 ranRow r = 0
 

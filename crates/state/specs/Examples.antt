@@ -1,4 +1,4 @@
--- Document 01's sum graph, computed by these definitions: loaded, legal, run by sweeps, with an order list, with an allowance one short, and
+-- The sum graph, computed by these definitions: loaded, legal, run by sweeps, with an order list, with an allowance one short, and
 -- with a zero step.
 -- Assumes nothing.
 use Prim.Native.Nat.{ℕ}

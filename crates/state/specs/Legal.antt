@@ -1,8 +1,8 @@
--- Legal states: document 01, 'Firing', its paragraph 'State'.
+-- Legal states: docs/RULES.md, section 'Firing'.
 --
 --   stateLength               how many words a state of this graph has
 --   legalWire, legalNode      the rules for one wire, and for one node's record
---   legal                     "A state that keeps these rules is legal."
+--   legal                     'A state is legal if its length is right', and every wire and every record
 --
 -- Assumes nothing.
 use Prim.Native.Nat.{ℕ, _+_, _*_}
@@ -19,14 +19,14 @@ use Rattle.graph.specs.Below.{every}
 use Rattle.graph.specs.Graph.{Node, nodeAt, nodeCount, wireCount, sortAt}
 use Rattle.state.specs.State.{fullPlace, wordPlace, recordAt}
 
--- "length not 2W + 4n"
+-- 'A state is 2W + 4n words'
 abbrev pub stateLength : List ℕ → ℕ
 stateLength g = 2 * wireCount g + 4 * nodeCount g
 
 abbrev pub rightLength : List ℕ → List ℕ → Bool
 rightLength g s = eqb (length s) (stateLength g)
 
--- "full (0 or 1) and word (0 when empty)"; "Words of flag sort are 0 or 1."
+-- 'every wire is 0 0, or 1 and a word that fits the wire's sort, so a flag is 0 or 1'
 abbrev pub legalToken : ℕ → ℕ → ℕ → Bool
 legalToken sort full word = pick (eqb full 0) (eqb word 0) (eqb full 1 && fits sort word)
 

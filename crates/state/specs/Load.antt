@@ -1,4 +1,4 @@
--- Loading: document 01, 'Firing': "Loading puts each start's word on its wire; all else is 0."
+-- Loading: 'Loading fills the wires of the starts: with the input of that number, or with the constant. Everything else becomes 0.'
 --
 --   inputCount                how many inputs a graph has
 --   startWord                 the word of a start: an input's, or the constant

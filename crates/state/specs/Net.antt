@@ -1,4 +1,4 @@
--- One firing on a state: document 01, 'Firing'.
+-- One firing on a state: docs/RULES.md, section 'Firing'.
 --
 --   Net                       so many wires, the wire on each place of each node, and what each node does
 --   view, effectAt            what node i sees in a state, and what it would do: none where it is not ready
@@ -54,7 +54,7 @@ after N i s (some e) = some (stored (stores N i e) s)
 unfoldable pub fire : Net → ℕ → List ℕ → Option (List ℕ)
 fire N i s = after N i s (effectAt N i s)
 
--- "One firing of a node that isn't ready answers so and changes nothing."
+-- 'Fire answers whether the node fired; a node that is not ready changes nothing.'
 abbrev pub isReady : Option (List ℕ) → Bool
 isReady none = false
 isReady (some a) = true

@@ -1,4 +1,4 @@
--- A run: document 01, 'Firing', its paragraph 'Run'.
+-- A run: docs/RULES.md, section 'Firing'.
 --
 --   turn, follow, sweep, finish       the list once, then sweeps until one fires nothing, within an allowance
 --   run                               finish after follow
@@ -24,7 +24,7 @@ pub record At : Type 0 where
   pub state : List ℕ
   pub left : ℕ
 
--- Node i's turn: it fires if it is ready. "It stops before a firing beyond the allowance."
+-- Node i's turn: it fires if it is ready. 'It makes no firing beyond its allowance.'
 abbrev pub turned : Option (List ℕ) → List ℕ → ℕ → At
 turned none s l = record { state = s; left = l }
 turned (some a) s zero = record { state = s; left = zero }
@@ -33,12 +33,12 @@ turned (some a) s (suc l) = record { state = a; left = l }
 unfoldable pub turn : Net → ℕ → At → At
 turn N i p = turned (fire N i (p .state)) (p .state) (p .left)
 
--- "the caller's list of node numbers once, firing each that is ready"
+-- 'goes through the caller's list once, and each number is a turn of that node: it fires if it is ready'
 unfoldable pub follow : Net → List ℕ → At → At
 follow N [] p = p
 follow N (i ∷ order) p = follow N order (turn N i p)
 
--- "sweeps from node 0 up, firing each node that is ready when its turn comes, once a sweep": m nodes from node i up
+-- 'Then it sweeps over all nodes from node 0 up, a turn for each node in a sweep': m nodes from node i up
 unfoldable pub sweepFrom : Net → ℕ → ℕ → At → At
 sweepFrom N zero i p = p
 sweepFrom N (suc m) i p = sweepFrom N m (i + 1) (turn N i p)
@@ -46,7 +46,7 @@ sweepFrom N (suc m) i p = sweepFrom N m (i + 1) (turn N i p)
 abbrev pub sweep : Net → ℕ → At → At
 sweep N n p = sweepFrom N n 0 p
 
--- "until a sweep fires nothing". Each sweep but the last fires, so there are at most as many as firings are left, and one.
+-- 'it rests when a sweep has fired nothing'. Each sweep but the last fires, so there are at most as many as firings are left, and one.
 unfoldable pub sweeps : Net → ℕ → ℕ → At → At
 sweeps N zero n p = p
 sweeps N (suc f) n p = elim (eqb (sweep N n p .left) (p .left)) [ true ↦ sweep N n p | false ↦ sweeps N f n (sweep N n p) ]
@@ -71,11 +71,11 @@ ZERO-STEP = 1
 abbrev pub STRANDED : ℕ
 STRANDED = 2
 
--- "3 SPENT if a node is ready"
+-- 3 SPENT: 'some node is still ready'
 unfoldable pub anyReady : Net → ℕ → List ℕ → Bool
 anyReady N n s = not (every n (λ i. not (isReady (fire N i s))))
 
--- "0 COMPLETE if results are full, all other wires empty and all phases 0"
+-- 0 COMPLETE: 'every result is full, every other wire is empty and every phase is 0'
 abbrev pub isFull : List ℕ → ℕ → Bool
 isFull s w = not (isEmpty (getD s (fullPlace w) 0))
 
@@ -94,7 +94,7 @@ phasesZero g s = every (nodeCount g) (λ i. eqb (recordAt (wireCount g) s i .pha
 unfoldable pub complete : List ℕ → List ℕ → Bool
 complete g s = resultsFull g s && (othersEmpty g s && phasesZero g s)
 
--- "the lowest STREAM in phase 0 that has three tokens and step 0"
+-- 1 ZERO STEP: 'a STREAM in phase 0 has its three tokens, and the step is 0; the lowest such node is named'
 abbrev pub isStream : Option Node → Bool
 isStream none = false
 isStream (some nd) = elim (nd .kind) [ STREAM ↦ true | GATE ↦ false | CARRY ↦ false | INVARIANT ↦ false | SPLIT ↦ false | FORK ↦ false | DRAIN ↦ false | OP ↦ false | PICK ↦ false ]
@@ -121,7 +121,7 @@ firstFrom (suc m) i test = elim (test i) [ true ↦ i | false ↦ firstFrom m (i
 abbrev pub zeroStep : List ℕ → List ℕ → ℕ
 zeroStep g s = firstFrom (nodeCount g) 0 (zeroStepAt g s)
 
--- "The node is 0 except for ZERO STEP."
+-- 'Only ZERO STEP names a node; for the others the node is 0.'
 pub record Outcome : Type 0 where
   pub answer : ℕ
   pub node : ℕ

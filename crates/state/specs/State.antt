@@ -1,4 +1,4 @@
--- A state as words: document 01, 'Firing', its paragraph 'State'. `s` is the whole list of words, `W` the number of wires.
+-- A state as words: docs/RULES.md, section 'Firing'. `s` is the whole list of words, `W` the number of wires.
 --
 --   tokenAt, hasRoom          what stands on a wire, and whether it may be filled
 --   recordAt                  a node's phase and three registers
@@ -15,14 +15,14 @@ use mathlib.Core.Option.{Option, none, some}
 use lib.ListN.{getD, set, length, length-set}
 use Rattle.step.specs.declared.Record.{Record}
 
--- "per wire full (0 or 1) and word (0 when empty)"
+-- 'first, for each wire, whether it is full and its word'
 abbrev pub fullPlace : ℕ → ℕ
 fullPlace w = 2 * w
 
 abbrev pub wordPlace : ℕ → ℕ
 wordPlace w = 2 * w + 1
 
--- "then per node phase and r0, r1, r2"
+-- 'then, for each node, its phase and its registers r0, r1, r2'
 abbrev pub recordPlace : ℕ → ℕ → ℕ
 recordPlace W i = 2 * W + 4 * i
 
@@ -37,7 +37,7 @@ isEmpty (suc f) = false
 abbrev pub tokenAt : List ℕ → ℕ → Option ℕ
 tokenAt s w = token (getD s (fullPlace w) 0) (getD s (wordPlace w) 0)
 
--- A place that a node does not have holds no word, and has no room.
+-- 'A place that its kind does not have holds no word and has no room.'
 abbrev pub tokenOn : List ℕ → Option ℕ → Option ℕ
 tokenOn s none = none
 tokenOn s (some w) = tokenAt s w

@@ -59,7 +59,7 @@ pub data Program : Type 0 where
   -- put these words on the outputs, leave this record, end
   give : Option ℕ → Option ℕ → Record → Program
 
--- A node is ready when the inputs it will take are full and the outputs it will fill are empty.
+-- 'A node is ready when every input it would take is full and every output it would fill has room.'
 abbrev pub fillable : Option ℕ → Bool → Bool
 fillable none r = true
 fillable (some x) r = r

@@ -1,7 +1,7 @@
 -- Legal records and sorts: a step keeps a legal record legal, and gives words of the sort that its outputs have.
 --
 --   fits                          a word may stand where this sort is asked
---   legalRecord                   document 01, 'Firing': which records a node may have
+--   legalRecord                   'every record is one its kind may have'
 --   step-keeps-legal              a firing of a legal record leaves a legal record
 --   step-gives-fitting            and gives words that fit their outputs
 --
@@ -22,27 +22,27 @@ use Rattle.step.specs.Machines.{rest, inPhase, holding, whether, streamP
 use Rattle.step.specs.Locality.{plain, giving-inv, asking-inv, taking-gives, taking-next}
 use Rattle.step.specs.declared.Record.{Record}
 
--- Words of flag sort are 0 or 1; others are below 2^32.
+-- 'a word that fits the wire's sort, so a flag is 0 or 1'; other words are below 2^32.
 abbrev pub fits : ℕ → ℕ → Bool
 fits sort x = ltb x (limit sort)
 
--- all other registers are 0
+-- empty registers are 0
 abbrev pub empty : ℕ → ℕ → ℕ → Bool
 empty a b c = eqb a 0 && (eqb b 0 && eqb c 0)
 
--- STREAM in phase 1 holds next, step (not 0) and bound
+-- 'a STREAM in phase 0 with empty registers, or in phase 1 holding index, bound and a step that is not 0'
 abbrev pub legalStream : ℕ → ℕ → ℕ → ℕ → Bool
 legalStream zero a b c = empty a b c
 legalStream (suc zero) a b c = fits 0 a && ((not (eqb b 0) && fits 0 b) && fits 0 c)
 legalStream (suc (suc p)) a b c = false
 
--- INVARIANT in phase 1 holds its word in r0, of its row's sort
+-- 'an INVARIANT in phase 0 with empty registers, or in phase 1 with a word of its sort in r0'
 abbrev pub legalInvariant : ℕ → ℕ → ℕ → ℕ → ℕ → Bool
 legalInvariant sort zero a b c = empty a b c
 legalInvariant sort (suc zero) a b c = fits sort a && (eqb b 0 && eqb c 0)
 legalInvariant sort (suc (suc p)) a b c = false
 
--- Phases: CARRY 0..2, STREAM, GATE, INVARIANT 0..1, others 0.
+-- 'a GATE in phase 0 or 1, a CARRY in phase 0 to 2, all others in phase 0, with empty registers'
 abbrev pub legalPhase : ℕ → Record → Bool
 legalPhase phases r = ltb (r .phase) phases && empty (r .r0) (r .r1) (r .r2)
 

@@ -1,4 +1,4 @@
--- The nine kinds of node: document 01, 'The graph', its table of kinds, and the sorts of what stands on each place.
+-- The nine kinds of node: docs/RULES.md, section 'The graph', its table of kinds, with the sorts of what stands on each place.
 --
 --   Kind, kindOf                  a kind and its number
 --   inputs, outputs               how many places of each a kind has
@@ -60,12 +60,12 @@ outputs DRAIN = 0
 outputs OP = 1
 outputs PICK = 1
 
--- Sorts: 0 word, 1 flag. A word is below 2^32, a flag is 0 or 1.
+-- '0 for words, 1 for flags': a word is below 2^32, a flag below 2.
 abbrev pub limit : ℕ → ℕ
 limit zero = wordLimit
 limit (suc s) = 2
 
--- Code: STREAM 5 × update + condition, six updates and five conditions; OP its code, of eight; else 0.
+-- The column 'codes': six updates by five conditions for a STREAM, eight operators for an OP, one code for the others.
 abbrev pub codes : Kind → ℕ
 codes STREAM = 30
 codes GATE = 1
@@ -77,7 +77,7 @@ codes DRAIN = 1
 codes OP = 8
 codes PICK = 1
 
--- Sort is the value's; 0 for STREAM, OP, PICK: how many sorts a row of this kind may name.
+-- The column 'sorts of a row': how many sorts a row of this kind may name.
 abbrev pub ownSorts : Kind → ℕ
 ownSorts STREAM = 1
 ownSorts GATE = 2

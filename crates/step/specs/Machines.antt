@@ -1,5 +1,5 @@
--- The nine kinds of node as programs: document 01, 'Firing' and the table of kinds, over source document 000 (which decides where 001
--- differs). Decided by kind, then phase, then the flag it takes.
+-- The nine kinds of node as programs: the table of docs/RULES.md, section 'Firing'. 'What it would do follows from its kind, then its phase, then
+-- the flag it takes'.
 --
 --   program κ code record         what a node of kind κ does next
 --   step κ code view              one firing, or not ready
@@ -28,9 +28,9 @@ abbrev pub whether : ℕ → Program → Program → Program
 whether zero p q = q
 whether (suc f) p q = p
 
--- STREAM, phase 0: activation latches start, step and bound, and gives nothing. A waiting step of 0 is not ready.
+-- STREAM, phase 0: it takes start, step and bound and gives nothing; with a step of 0 it is not ready.
 -- Phase 1: one pair (index, condition) a firing; after a true condition the index is updated, after a false one it is in phase 0 again.
--- What waits on its inputs then changes nothing.
+-- 'What waits on a STREAM's inputs in phase 1 changes nothing.'
 abbrev pub streamPair : ℕ → ℕ → ℕ → ℕ → ℕ → Program
 streamPair zero code index step bound = give (some index) (some 0) rest
 streamPair (suc c) code index step bound = give (some index) (some 1) (holding (update (code / 5) index step) step bound)
@@ -48,7 +48,7 @@ gate (suc zero) = ask in0 (λ value. ask in1 (λ c. whether c (give (some value)
 gate (suc (suc p)) = stop
 
 -- CARRY, phase 0: takes `a` and gives it. Phase 1: takes `d`; true leads to phase 2, false to phase 0. Phase 2: takes `b` and gives it, back to
--- phase 1. So `d` and `b` are taken in separate firings.
+-- phase 1. 'a CARRY never takes `d` together with `b`'.
 abbrev pub carry : ℕ → Program
 carry zero = ask in1 (λ a. give (some a) none (inPhase 1))
 carry (suc zero) = ask in0 (λ d. whether d (give none none (inPhase 2)) (give none none rest))
@@ -62,7 +62,7 @@ invariant r zero = ask in1 (λ a. give (some a) none (holding a 0 0))
 invariant r (suc zero) = ask in0 (λ d. whether d (give (some (r .r0)) none (holding (r .r0) 0 0)) (give none none rest))
 invariant r (suc (suc p)) = stop
 
--- The others have phase 0 alone. SPLIT fills only the leg taken. PICK takes all three.
+-- The others have phase 0 alone. SPLIT gives on one leg and needs room there alone. PICK takes all three.
 abbrev pub split : ℕ → Program
 split zero = ask in0 (λ f. ask in1 (λ value. whether f (give (some value) none rest) (give none (some value) rest)))
 split (suc p) = stop

@@ -66,7 +66,7 @@ abbrev pub unless : Bool → Bool → Bool
 unless true b = b
 unless false b = true
 
--- the inputs it will take are full, and the outputs it will fill are empty
+-- every input it would take is full, and every output it would fill has room
 unfoldable pub ready : Seen → Effect → Bool
 ready s e =
     (unless (e .takes0) (s .in0 .full) && (unless (e .takes1) (s .in1 .full) && unless (e .takes2) (s .in2 .full)))

@@ -148,7 +148,7 @@ fn hold(r0: u32, r1: u32, r2: u32) -> Record
 
 // What each kind would do next, by its phase and then the flag it takes. Whether it may is asked once, in `step`.
 
-// Activation latches start, step and bound, unless the step is 0; then one pair a firing.
+// In phase 0 it takes start, step and bound, unless the step is 0; in phase 1 it gives a pair a firing.
 fn stream(code: u32, seen: Seen, own: Record) -> Firing
     ensures decision { λ r. ⌜ shown r ≡ decided (program STREAM code own) (wordsOf seen) ⌝ }
 {
@@ -334,7 +334,7 @@ fn both(a: bool, b: bool) -> bool
     if a { b } else { false }
 }
 
-// The inputs it will take are full, and the outputs it will fill are empty.
+// Every input it would take is full, and every output it would fill has room.
 fn is_ready(seen: Seen, act: Act) -> bool
     ensures answer { λ r. ⌜ r ≡ ready seen (effectOf act) ⌝ }
 {

@@ -49,7 +49,7 @@ module _ (t : List ℕ) (ok : TableRight t) where
   unfolding kindRight
   known-kind r less = leb-true (kindOf t r) 8 (ok .row r less .kind)
 
-  -- 'INPUT and CONST come before all other kinds'
+  -- 'No other kind stands above an INPUT or CONST.'
   pub starts-first : (r s : ℕ) → r < s → s < size t → kindOf t s ≤ 1 → kindOf t r ≤ 1
   starts-first r zero less p k = absurd (omega arith)
   starts-first r (suc s) less p k =
@@ -60,7 +60,7 @@ module _ (t : List ℕ) (ok : TableRight t) where
       under : (a b : ℕ) → a ≢ b → a < suc b → a < b
       under a b e q = omega arith
 
-  -- 'only OUT follows it'
+  -- 'Below an OUT there are only OUTs.'
   pub outs-last : (r s : ℕ) → r < s → s < size t → kindOf t r ≡ 8 → kindOf t s ≡ 8
   outs-last r zero less p k = absurd (omega arith)
   outs-last r (suc s) less p k =
@@ -80,7 +80,7 @@ module _ (t : List ℕ) (ok : TableRight t) where
   unfolding endRight
   nothing-left-open = empty (stackAt t (size t)) (both (outside (stackAt t (size t))) (eqb (kindBefore t (size t)) 8) (ok .ended) .0)
 
-  -- 'OUT stands outside every loop', and so do INPUT and CONST
+  -- 'An OUT stands in no loop', and neither do INPUT and CONST
   pub out-outside : (r : ℕ) → r < size t → kindOf t r ≡ 8 → stackAt t r ≡ []
   out-outside r less k = empty (stackAt t r) (out-is-outside t r (ok .row r less) k)
 

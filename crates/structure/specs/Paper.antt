@@ -1,4 +1,4 @@
--- The place rules in the paper's own words, which speak of all earlier rows, and that the check's look at the row before is the same.
+-- The rules of place as docs/RULES.md has them from the scope paper, over all rows above, and that the check's look at the row before is the same.
 -- Main names: `otherBefore`, `outBefore`, `paperPlace`, `paperRefusal`. Main results: `the-papers-place`, `the-papers-refusal`.
 -- Assumes nothing.
 use Prim.Native.Nat.{ℕ, zero, suc, _+_, _<_, _≤_}
@@ -30,7 +30,8 @@ outBefore t (suc r) = eqb (kindOf t r) 8 || outBefore t r
 abbrev pub implies : Bool → Bool → Bool
 implies a b = not a || b
 
--- 'INPUT and CONST come before all other kinds. ARG follows FOR or ARG. .. after a NEXT comes NEXT or END. .. only OUT follows it.'
+-- 'No other kind stands above an INPUT or CONST. - The ARGs of a loop stand directly behind its FOR. - Behind a NEXT stands another NEXT or the
+-- END'; 'Below an OUT there are only OUTs.'
 -- What is said of the open loops is `stands`.
 unfoldable pub paperPlace : List ℕ → ℕ → Bool
 paperPlace t r =
@@ -118,13 +119,13 @@ module _ (t : List ℕ) where
       go false false e f = refl
       go false true e f = let z = behind-out t r (ok r (omega arith)) (eqb-true (kindBefore t r) 8 f) in absurd (eqb-false (kindOf t r) 8 e z)
 
-  -- PLACE IS THE PAPER'S PLACE
+  -- PLACE IS WHAT THE RULES SAY OF ALL ROWS ABOVE
   pub the-papers-place : (r : ℕ) → ((x : ℕ) → x < r → RowRight t x) → placeRight t r ≡ paperPlace t r
   unfolding placeRight paperPlace near
   the-papers-place r ok =
       rw (others-told r ok, outs-told r ok) (ap (λ (b : Bool). b && stands (kindOf t r) (stackAt t r)) (sym (near-follows (kindBefore t r) (kindOf t r))))
 
--- ---- the refusal with the paper's place and 'no OUT'
+-- ---- the refusal with these rules of place, and with an OUT anywhere
 unfoldable pub paperRow : List ℕ → ℕ → ℕ
 paperRow t r =
     orElse (kindRight t r) KIND
@@ -133,7 +134,7 @@ paperRow t r =
     (orElse (paperPlace t r) PLACE
     (orElse (depthRight t r) DEPTH (orElse (namesRight t r) NAME (orElse (typesRight t r) TYPE 0))))))
 
--- 'a loop open at the end, or no OUT'
+-- 9 OPEN: 'every loop is closed, and there is an OUT'
 unfoldable pub paperEnd : List ℕ → Bool
 paperEnd t = outside (stackAt t (size t)) && outBefore t (size t)
 
@@ -169,7 +170,7 @@ module _ (t : List ℕ) where
       go zero q IH = IH (here q)
       go (suc k) q IH = rw (ne-eqb (suc k) 0 (λ z. omega arith))
 
-  -- THE REFUSAL IS THE PAPER'S
+  -- AND SO IS THE REFUSAL
   pub the-papers-refusal : tableRefusal t ≡ paperRefusal t
   unfolding tableRefusal paperRefusal
   the-papers-refusal = rw (same-rows (size t) 0 (omega arith) (λ x h. absurd (omega arith)))

@@ -65,19 +65,19 @@ module _ (t : List ℕ) (r : ℕ) (ok : RowRight t r) where
   unfolding placeRight
   standing = both (follows (kindBefore t r) (kindOf t r)) (stands (kindOf t r) (stackAt t r)) (ok .place) .1
 
-  -- 'after a NEXT comes NEXT or END'
+  -- 'Behind a NEXT stands another NEXT or the END'
   pub behind-next : kindBefore t r ≡ 6 → (kindOf t r ≡ 6) ⊎ (kindOf t r ≡ 7)
   behind-next e = next-then (kindOf t r) (rw e at neighbours)
 
-  -- 'only OUT follows it'
+  -- 'Below an OUT there are only OUTs.'
   pub behind-out : kindBefore t r ≡ 8 → kindOf t r ≡ 8
   behind-out e = out-then (kindOf t r) (rw e at neighbours)
 
-  -- 'ARG follows FOR or ARG'
+  -- 'The ARGs of a loop stand directly behind its FOR.'
   pub arg-behind : kindOf t r ≡ 5 → (kindBefore t r ≡ 4) ⊎ (kindBefore t r ≡ 5)
   arg-behind e = then-arg (kindBefore t r) (rw e at neighbours)
 
-  -- 'INPUT and CONST come before all other kinds'
+  -- 'No other kind stands above an INPUT or CONST.'
   pub start-behind : kindOf t r ≤ 1 → kindBefore t r ≤ 1
   start-behind l = then-start (kindBefore t r) (kindOf t r) l neighbours
 

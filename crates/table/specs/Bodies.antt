@@ -9,7 +9,7 @@ use lib.Dec.{eqb}
 use Rattle.table.specs.Rows.{kindOf, word, size, INPUT, CONST, OP, PICK, FOR, ARG, NEXT, END, OUT, firstOperand}
 use Rattle.table.specs.Scan.{Loop, stackAt, bodyOf}
 
--- '| kind | words | value |'. A kind over 8 is `unknown`.
+-- The table of kinds, with the words used. A kind over 8 is `unknown`.
 pub data Row : Type 0 where
   input : Row
   const : ℕ → Row
@@ -56,7 +56,7 @@ unfoldable pub argsFrom : ℕ → List ℕ → ℕ → ℕ
 argsFrom zero t r = 0
 argsFrom (suc m) t r = let later = suc (argsFrom m t (suc r)) in cond (eqb (kindOf t r) ARG) later 0
 
--- 'ARG follows FOR or ARG': the ARGs of loop L stand directly behind it
+-- 'The ARGs of a loop stand directly behind its FOR.'
 unfoldable pub argsOf : List ℕ → ℕ → ℕ
 argsOf t L = argsFrom (size t - suc L) t (suc L)
 
@@ -76,7 +76,8 @@ abbrev pub nextsIn : List Loop → ℕ
 nextsIn [] = 0
 nextsIn (l ∷ s) = l .nexts
 
--- 'The n-th NEXT of a loop serves its n-th ARG.' The ARG of NEXT x, and the NEXT of ARG a: the NEXTs stand directly before END.
+-- 'its first NEXT serves its first ARG, and so on': the ARG of NEXT x, and the NEXT of ARG a. 'the NEXTs of a loop stand directly before its
+-- END'.
 unfoldable pub argOf : List ℕ → ℕ → ℕ
 argOf t x = suc (bodyOf t x) + nextsIn (stackAt t x)
 

@@ -1,4 +1,4 @@
--- Tables of the register and damaged neighbours, and that the refusal of each computes as document 01 says.
+-- Tables of the register and damaged neighbours, and that the refusal of each computes as the rules say.
 -- Main names: `sumTable`, `p12Table`, `nested`, and one case for each refusal 1 to 9, with the order where a row has two faults.
 -- Assumes nothing.
 use Prim.Native.Nat.{ℕ, zero, suc}
@@ -40,14 +40,14 @@ close = row6 7 0 0 0 0 0
 abbrev pub out : ℕ → List ℕ
 out x = row6 8 x 0 0 0 0 []
 
--- 'Sum table: INPUT; CONST 0; CONST 1; FOR 1 2 0 0 0; ARG 1; OP 0 4 3; NEXT 5; END; OUT 6', with the step as a variable
+-- 'INPUT, CONST 0, CONST 1, FOR 1 2 0 0 0, ARG 1, OP 0 4 3, NEXT 5, END, OUT 6', with the step as a variable
 abbrev pub sumBy : ℕ → List ℕ
 sumBy step = input (const 0 (const step (loop 1 2 0 0 0 (arg 1 (op 0 4 3 (next 5 (close (out 6))))))))
 
 abbrev pub sumTable : List ℕ
 sumTable = sumBy 1
 
--- 'P12: CONST 0; CONST 1; CONST 3; FOR 0 1 2 0 0; ARG 0; FOR 0 1 3 0 0; ARG 4; OP 0 6 3; NEXT 7; END; NEXT 8; END; OUT 10'
+-- 'CONST 0, CONST 1, CONST 3, FOR 0 1 2 0 0, ARG 0, FOR 0 1 3 0 0, ARG 4, OP 0 6 3, NEXT 7, END, NEXT 8, END, OUT 10'
 abbrev pub p12Table : List ℕ
 p12Table =
     const 0 (const 1 (const 3 (loop 0 1 2 0 0 (arg 0 (loop 0 1 3 0 0 (arg 4 (op 0 6 3 (next 7 (close (next 8 (close (out 10))))))))))))
@@ -74,7 +74,7 @@ check-computes : ℕ
 unfolding usedWords operandCount firstOperand sortOf wantedSort after stackAt bodyOf readStack reads homeBy home bodyOpen endPassed visible lengthRight kindRight zerosFrom spareRight codeRight follows stands placeRight depthRight namesFrom namesRight typesFrom typesRight endRight rowRefusal rowsFrom tableRefusal
 check-computes = 0
 
--- Document 01's own tables pass.
+-- The register's tables pass.
 pub sum-passes : tableRefusal sumTable ≡ answer 0 0
 unfolding check-computes
 sum-passes = refl
@@ -269,7 +269,7 @@ pub row-before-open : tableRefusal (const 1 (loop 0 0 9 0 0 [])) ≡ answer 7 1
 unfolding check-computes
 row-before-open = refl
 
--- '512 rows pass LENGTH'
+-- 'a table of 512 rows passes 1, one of 513 does not'
 pub rows-512 : lengthRight (consts 511) ≡ true
 unfolding lengthRight
 rows-512 = refl

@@ -38,15 +38,15 @@ TYPE = 8
 abbrev pub OPEN : ℕ
 OPEN = 9
 
--- 1 LENGTH: 'not a multiple of 6, no rows, over 512 rows'
+-- 1 LENGTH: 'the words are a multiple of 6, and there are 1 to 512 rows'
 unfoldable pub lengthRight : List ℕ → Bool
 lengthRight t = eqb (length t % 6) 0 && (leb 1 (size t) && leb (size t) 512)
 
--- 2 KIND: 'kind over 8'
+-- 2 KIND: 'the kind is at most 8'
 unfoldable pub kindRight : List ℕ → ℕ → Bool
 kindRight t r = leb (kindOf t r) OUT
 
--- 3 SPARE: 'unused word not 0'. So many words of row r, from word k up, are 0.
+-- 3 SPARE: 'each word that the kind does not use is 0'. So many words of row r, from word k up, are 0.
 unfoldable pub zerosFrom : ℕ → List ℕ → ℕ → ℕ → Bool
 zerosFrom zero t r k = true
 zerosFrom (suc m) t r k = eqb (word t r k) 0 && zerosFrom m t r (k + 1)
@@ -54,7 +54,7 @@ zerosFrom (suc m) t r k = eqb (word t r k) 0 && zerosFrom m t r (k + 1)
 unfoldable pub spareRight : List ℕ → ℕ → Bool
 spareRight t r = zerosFrom (5 - usedWords (kindOf t r)) t r (usedWords (kindOf t r) + 1)
 
--- 4 CODE: 'code beyond its list'. Eight operators; six updates and five conditions.
+-- 4 CODE: 'OP's a is at most 7; FOR's d is at most 5 and its e at most 4'
 unfoldable pub codeRight : List ℕ → ℕ → Bool
 codeRight t r =
     cond (eqb (kindOf t r) OP) (leb (word t r 1) 7)
@@ -65,7 +65,7 @@ abbrev pub kindBefore : List ℕ → ℕ → ℕ
 kindBefore t zero = INPUT
 kindBefore t (suc r) = kindOf t r
 
--- 'only OUT follows it'; 'after a NEXT comes NEXT or END'; 'INPUT and CONST come before all other kinds'; 'ARG follows FOR or ARG'.
+-- 'b is OUT: k is OUT.' 'b is NEXT: k is NEXT or END.' 'k is INPUT or CONST: b is INPUT or CONST.' 'k is ARG: b is FOR or ARG.'
 -- Rows are refused in order, so it is enough to look at the row before: an INPUT behind an INPUT or CONST has only such rows before it,
 -- and a row behind no OUT has no OUT before it.
 unfoldable pub follows : ℕ → ℕ → Bool
@@ -74,17 +74,17 @@ follows before kind =
     (cond (eqb before NEXT) (eqb kind NEXT || eqb kind END)
     (cond (leb kind CONST) (leb before CONST) (cond (eqb kind ARG) (eqb before FOR || eqb before ARG) true)))
 
--- 'The n-th NEXT of a loop serves its n-th ARG; there are as many.' The innermost loop has an ARG left for one more NEXT.
+-- 'a NEXT needs an innermost loop that has fewer NEXTs than ARGs'
 abbrev pub argLeft : List Loop → Bool
 argLeft [] = false
 argLeft (l ∷ s) = ltb (l .nexts) (l .args)
 
--- 'END needs an open loop with all its NEXTs.'
+-- 'An END closes an open loop that has all its NEXTs.'
 abbrev pub allServed : List Loop → Bool
 allServed [] = false
 allServed (l ∷ s) = eqb (l .nexts) (l .args)
 
--- 'OUT stands outside every loop.'
+-- 'An OUT stands in no loop.'
 abbrev pub outside : List Loop → Bool
 outside [] = true
 outside (l ∷ s) = false
@@ -96,11 +96,11 @@ stands kind s =
 unfoldable pub placeRight : List ℕ → ℕ → Bool
 placeRight t r = follows (kindBefore t r) (kindOf t r) && stands (kindOf t r) (stackAt t r)
 
--- 6 DEPTH: 'FOR with 8 loops open'
+-- 6 DEPTH: 'a FOR has at most 7 loops open before it'
 unfoldable pub depthRight : List ℕ → ℕ → Bool
 depthRight t r = cond (eqb (kindOf t r) FOR) (ltb (length (stackAt t r)) 8) true
 
--- 7 NAME: 'operand not visible'. So many words of row r, from word k up, name visible values.
+-- 7 NAME: 'every operand is visible'. So many words of row r, from word k up, name visible values.
 unfoldable pub namesFrom : ℕ → List ℕ → ℕ → ℕ → Bool
 namesFrom zero t r k = true
 namesFrom (suc m) t r k = visible t r (word t r k) && namesFrom m t r (k + 1)
@@ -108,7 +108,7 @@ namesFrom (suc m) t r k = visible t r (word t r k) && namesFrom m t r (k + 1)
 unfoldable pub namesRight : List ℕ → ℕ → Bool
 namesRight t r = namesFrom (operandCount (kindOf t r)) t r (firstOperand (kindOf t r))
 
--- 8 TYPE: 'wrong sort'
+-- 8 TYPE: 'every operand has the sort that is wanted there'
 unfoldable pub typesFrom : ℕ → List ℕ → ℕ → ℕ → Bool
 typesFrom zero t r k = true
 typesFrom (suc m) t r k = eqb (sortOf t (word t r k)) (wantedSort (kindOf t r) k) && typesFrom m t r (k + 1)
@@ -116,11 +116,11 @@ typesFrom (suc m) t r k = eqb (sortOf t (word t r k)) (wantedSort (kindOf t r) k
 unfoldable pub typesRight : List ℕ → ℕ → Bool
 typesRight t r = typesFrom (operandCount (kindOf t r)) t r (firstOperand (kindOf t r))
 
--- 9 OPEN: 'a loop open at the end, or no OUT'. Only OUT follows an OUT, so there is one exactly if the last row is one.
+-- 9 OPEN: 'every loop is closed, and there is an OUT'. Below an OUT there are only OUTs, so there is one exactly if the last row is one.
 unfoldable pub endRight : List ℕ → Bool
 endRight t = outside (stackAt t (size t)) && eqb (kindBefore t (size t)) OUT
 
--- '2 to 8 row by row, lowest number within a row': the first test that fails gives the number, 0 where none does
+-- 'of the first row that fails any of 2 to 8 the lowest number that it fails is answered': 0 where it fails none
 abbrev pub orElse : Bool → ℕ → ℕ → ℕ
 orElse true number rest = rest
 orElse false number rest = number
@@ -133,7 +133,7 @@ rowRefusal t r =
     (orElse (placeRight t r) PLACE
     (orElse (depthRight t r) DEPTH (orElse (namesRight t r) NAME (orElse (typesRight t r) TYPE 0))))))
 
--- 'Each returns its number and a row'
+-- 'A refusal is a number and a row.'
 pub record Refusal : Type 0 where
   pub number : ℕ
   pub row : ℕ
@@ -141,11 +141,11 @@ pub record Refusal : Type 0 where
 abbrev pub answer : ℕ → ℕ → Refusal
 answer k r = record { number = k; row = r }
 
--- so many rows from row r up; 'then 9', with the row count; 'a check that succeeds answers 0'
+-- so many rows from row r up; 'Then comes 9', with the row count; 'What passes is answered with 0.'
 unfoldable pub rowsFrom : ℕ → List ℕ → ℕ → Refusal
 rowsFrom zero t r = cond (endRight t) (answer 0 0) (answer OPEN r)
 rowsFrom (suc m) t r = cond (eqb (rowRefusal t r) 0) (rowsFrom m t (r + 1)) (answer (rowRefusal t r) r)
 
--- '1 first'
+-- '1 is looked at first, over the whole table.'
 unfoldable pub tableRefusal : List ℕ → Refusal
 tableRefusal t = cond (lengthRight t) (rowsFrom (size t) t 0) (answer LENGTH 0)

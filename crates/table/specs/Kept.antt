@@ -10,7 +10,7 @@ use lib.ListN.{getD, length}
 use Rattle.table.specs.Rows.{size, FOR, END}
 use Rattle.table.specs.Scan.{Loop, stackAt, bodyOf, home}
 
--- 'The open loops are kept as eight entries of three numbers each: first row, ARGs, NEXTs.'
+-- 'For each open loop three numbers are kept: its FOR row, its ARGs and its NEXTs so far. The check has eight such entries.'
 abbrev pub entryOf : ℕ → ℕ → ℕ → Loop
 entryOf r m k = record { row = r; args = m; nexts = k }
 

@@ -7,7 +7,7 @@ use mathlib.Core.List.{List}
 use lib.Dec.{eqb, leb}
 use lib.ListN.{getD, length}
 
--- 'Rows of six words: kind, then a to e.' Words past the end read as 0.
+-- 'A table is a list of words, six to a row: its kind, then its words a to e.' Words past the end read as 0.
 abbrev pub kindOf : List ℕ → ℕ → ℕ
 kindOf t r = getD t (6 * r) 0
 
@@ -47,14 +47,14 @@ END = 7
 abbrev pub OUT : ℕ
 OUT = 8
 
--- 'Unused words are 0.' The words that a kind uses are the first so many of a to e: INPUT and END none, OP and PICK three,
+-- 'Words that a kind does not use have to be 0.' The words that it uses are the first so many of a to e: INPUT and END none, OP and PICK three,
 -- FOR five, and CONST, ARG, NEXT and OUT one.
 unfoldable pub usedWords : ℕ → ℕ
 usedWords kind =
     cond (eqb kind INPUT) 0
     (cond (eqb kind END) 0 (cond (eqb kind OP) 3 (cond (eqb kind PICK) 3 (cond (eqb kind FOR) 5 1))))
 
--- 'A row names a value by that value's row number.' The words that name values: OP's x and y behind its code; PICK's flag, x and y;
+-- 'An operand is a row number: it names the value of that row.' The operands: OP's x and y behind its code; PICK's flag, x and y;
 -- FOR's start, step and bound; the one word of ARG, NEXT and OUT.
 unfoldable pub operandCount : ℕ → ℕ
 operandCount kind =
@@ -66,10 +66,10 @@ operandCount kind =
 unfoldable pub firstOperand : ℕ → ℕ
 firstOperand kind = cond (eqb kind OP) 2 1
 
--- 'Operators: .. 3 to 7 the five conditions in that order, giving a flag.' Sort 1 is a flag, 0 a word; every other value is a word.
+-- '0 for words, 1 for flags. The value of an OP with code 3 to 7 is a flag; every other value is a word.'
 unfoldable pub sortOf : List ℕ → ℕ → ℕ
 sortOf t v = cond (eqb (kindOf t v) OP) (cond (leb 3 (word t v 1)) 1 0) 0
 
--- 'Only PICK's first operand is a flag; all others are words.' The sort that word k of a row of this kind has to name.
+-- 'PICK's word a has to name a flag, and every other operand a word.' The sort that word k of a row of this kind has to name.
 unfoldable pub wantedSort : ℕ → ℕ → ℕ
 wantedSort kind k = cond (eqb kind PICK) (cond (eqb k 1) 1 0) 0

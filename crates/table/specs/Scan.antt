@@ -8,7 +8,7 @@ use mathlib.Core.List.{List, [], _∷_}
 use lib.Dec.{eqb, leb, ltb}
 use Rattle.table.specs.Rows.{kindOf, size, FOR, ARG, NEXT, END, CONST}
 
--- 'The open loops are kept as eight entries of three numbers each: first row, ARGs, NEXTs.' The first row is the FOR row.
+-- 'For each open loop three numbers are kept: its FOR row, its ARGs and its NEXTs so far.'
 pub record Loop : Type 0 where
   pub row : ℕ
   pub args : ℕ
@@ -33,7 +33,7 @@ abbrev pub outward : List Loop → List Loop
 outward [] = []
 outward (l ∷ s) = s
 
--- the open loops behind a row, from those before it: FOR opens, ARG and NEXT are counted, END closes
+-- the open loops behind a row, from those before it: 'FOR opens a loop, ARG and NEXT are counted for the innermost open loop, END closes it'
 unfoldable pub after : ℕ → ℕ → List Loop → List Loop
 after kind r s =
     cond (eqb kind FOR) (opened r ∷ s)
@@ -49,19 +49,19 @@ abbrev pub inner : ℕ → List Loop → ℕ
 inner n [] = n
 inner n (l ∷ s) = l .row
 
--- the body in which row r stands; for ARG and NEXT that is their loop
+-- 'A row stands in the innermost body open before it; ARG, NEXT and END so stand in their own loop, FOR in the body around.'
 unfoldable pub bodyOf : List ℕ → ℕ → ℕ
 bodyOf t r = inner (size t) (stackAt t r)
 
--- 'The operands of FOR and ARG are read in the body around.' FOR opens its body behind itself; ARG stands in its loop already.
+-- 'A row's operands are read in the body that the row stands in, but an ARG's in the body around its loop.'
 unfoldable pub readStack : List ℕ → ℕ → List Loop
 readStack t r = cond (eqb (kindOf t r) ARG) (outward (stackAt t r)) (stackAt t r)
 
 unfoldable pub reads : List ℕ → ℕ → ℕ
 reads t r = inner (size t) (readStack t r)
 
--- 'Value' of the table of kinds. Of INPUT and CONST the home is the outermost body, of FOR and ARG the loop, of NEXT the body
--- around its loop, of OP and PICK the body they stand in.
+-- The column 'home' of the table of kinds: of INPUT and CONST the outermost body, of FOR and ARG the loop, of NEXT 'the body around its loop', of
+-- OP and PICK 'the body it stands in'.
 unfoldable pub homeBy : ℕ → ℕ → ℕ → List Loop → ℕ
 homeBy n kind r s =
     cond (leb kind CONST) n (cond (eqb kind FOR) r (cond (eqb kind NEXT) (inner n (outward s)) (inner n s)))
@@ -78,11 +78,12 @@ holds b (l ∷ s) = cond (eqb (l .row) b) true (holds b s)
 unfoldable pub bodyOpen : ℕ → ℕ → List Loop → Bool
 bodyOpen n b s = cond (eqb b n) true (holds b s)
 
--- 'with END passed for a NEXT': the loop of NEXT v is open no more
+-- 'for a NEXT, its own loop no longer open before r'
 unfoldable pub endPassed : List ℕ → ℕ → ℕ → Bool
 endPassed t r v = cond (eqb (kindOf t v) NEXT) (not (holds (bodyOf t v) (stackAt t r))) true
 
--- 'Visible: an earlier row of kind 0 to 6 whose home body is open, with END passed for a NEXT.'
+-- 'Visible from row r is a row v with': an earlier row of kind 0 to 6, 'its home body open where the operands of r are read', and not within a
+-- NEXT's own loop
 unfoldable pub visible : List ℕ → ℕ → ℕ → Bool
 visible t r v =
     ltb v r && (leb (kindOf t v) NEXT && (bodyOpen (size t) (home t v) (readStack t r) && endPassed t r v))

@@ -1,5 +1,5 @@
-// The check of a loop table's rows: refusals 1 to 9, with the row and the clause that tells the fitter what to mend.
-// `tell_rows` and `check_rows` are the entries. The stack of open loops is eight entries of three words (first row, ARGs, NEXTs), by value.
+// The check of a loop table's rows: refusals 1 to 9, with the row and the clause that tell the fitter what to mend.
+// `tell_rows` and `check_rows` are the entries. The stack of open loops is eight entries of three words (its FOR row, its ARGs, its NEXTs), by value.
 ghost use mathlib.Core.Path.{_≡_};
 ghost use Prim.Native.Nat.{_+_, _-_, _*_, _/_, _%_, _<_, _≤_};
 ghost use mathlib.Core.Bool.{true, cond};

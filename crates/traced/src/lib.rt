@@ -1,5 +1,5 @@
 // A run told firing by firing: a line for each, with what the node took and what it gave.
-// The turns are those of the run's rule: the caller's list once, then sweeps from node 0 up until one fires nothing, within the allowance.
+// The turns are those of the run's rule: the list, then sweeps until one has fired nothing, within the allowance.
 ghost use mathlib.Core.Path.{_≡_};
 ghost use Prim.Native.Nat.{_≤_, _<_};
 ghost use lib.ListN.{length};

@@ -1,4 +1,4 @@
-// Words and flags of document 01: the conditions, the updates of a stream's index, and the operators, each by its code.
+// Words and flags: the conditions, the updates of a stream's index, and the operators, each by its code.
 // `condition`, `update` and `operate` answer their definitions of specs/Words.antt on all inputs.
 // Assumes nothing.
 ghost use mathlib.Core.Path.{_≡_};

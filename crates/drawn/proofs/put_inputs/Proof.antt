@@ -7,16 +7,10 @@ use Rattle.drawn.proofs.put_inputs.Statement.{statement}
 use Rattle.drawn.proofs.put_inputs.Tie as tie
 
 abbrev Inv-loop : tie.InvT-loop
-Inv-loop out₀ at graph state i inputs n₀ k₀ out n k = (k ≤ 3) × (n ≤ length out) × (length out ≡ length out₀)
+Inv-loop out₀ at graph state wires i n₀ k₀ out n k = (k ≤ 3) × (n ≤ length out) × (length out ≡ length out₀)
 
 abbrev μ-loop : tie.MeasureT-loop
-μ-loop out₀ at graph state i inputs n₀ k₀ out n k = 3 - k
-
-row-word-requires : tie.Need-row-word-requires Inv-loop μ-loop
-row-word-requires c κs = search needs
-
-inputs-of-requires : tie.Need-inputs-of-requires Inv-loop μ-loop
-inputs-of-requires c κs = search needs
+μ-loop out₀ at graph state wires i n₀ k₀ out n k = 3 - k
 
 loop-holds : tie.Need-loop-holds Inv-loop μ-loop
 loop-holds c = search needs
@@ -45,8 +39,6 @@ put-inputs-spec =
     (tie.spec
     Inv-loop
     μ-loop
-    row-word-requires
-    inputs-of-requires
     loop-holds
     put-input-requires
     add-k

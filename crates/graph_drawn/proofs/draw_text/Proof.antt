@@ -24,6 +24,24 @@ slice-aggregate-words-2 c = search needs
 words-requires-2 : tie.Need-words-requires-2
 words-requires-2 c κs = search needs
 
+part-requires-3 : tie.Need-part-requires-3
+part-requires-3 c κs = search needs
+
+slice-aggregate-words-3 : tie.Need-slice-aggregate-words-3
+slice-aggregate-words-3 c = search needs
+
+words-requires-3 : tie.Need-words-requires-3
+words-requires-3 c κs = search needs
+
+part-requires-4 : tie.Need-part-requires-4
+part-requires-4 c κs = search needs
+
+slice-aggregate-words-4 : tie.Need-slice-aggregate-words-4
+slice-aggregate-words-4 c = search needs
+
+words-requires-4 : tie.Need-words-requires-4
+words-requires-4 c κs = search needs
+
 array-share-prefix-graph : tie.Need-array-share-prefix-graph
 array-share-prefix-graph c = search needs
 
@@ -35,6 +53,18 @@ array-share-prefix-state c = search needs
 
 slice-aggregate-draw-2 : tie.Need-slice-aggregate-draw-2
 slice-aggregate-draw-2 c = sym (length-take-le _ _ (omega arith))
+
+array-share-prefix-nodes : tie.Need-array-share-prefix-nodes
+array-share-prefix-nodes c = search needs
+
+slice-aggregate-draw-3 : tie.Need-slice-aggregate-draw-3
+slice-aggregate-draw-3 c = sym (length-take-le _ _ (omega arith))
+
+array-share-prefix-wires : tie.Need-array-share-prefix-wires
+array-share-prefix-wires c = search needs
+
+slice-aggregate-draw-4 : tie.Need-slice-aggregate-draw-4
+slice-aggregate-draw-4 c = sym (length-take-le _ _ (omega arith))
 
 draw-requires : tie.Need-draw-requires
 draw-requires c κs = search needs
@@ -52,9 +82,19 @@ draw-text-spec =
     part-requires-2
     slice-aggregate-words-2
     words-requires-2
+    part-requires-3
+    slice-aggregate-words-3
+    words-requires-3
+    part-requires-4
+    slice-aggregate-words-4
+    words-requires-4
     array-share-prefix-graph
     slice-aggregate-draw
     array-share-prefix-state
     slice-aggregate-draw-2
+    array-share-prefix-nodes
+    slice-aggregate-draw-3
+    array-share-prefix-wires
+    slice-aggregate-draw-4
     draw-requires
     returns)
