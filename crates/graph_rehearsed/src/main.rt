@@ -1,24 +1,23 @@
 // Rehearses a graph by sweeps, with an allowance of 1,000, first as it is and then with its firings told. Standard input gives its words, the input words and the
 // words of a state, semicolons between.
 use libc::STDOUT_FILENO;
+use traced::How;
 
-fn rehearse(graph: &[u32], inputs: &[u32], state: &mut [u32]) {
+fn rehearse(graph: &[u32], inputs: &[u32], state: &mut [u32], trace: bool) {
+    let how = How {
+        trace,
+        to: STDOUT_FILENO,
+        err: STDOUT_FILENO,
+    };
     let mut out = io::large_buffer();
-    let told = rehearsal::run_graph(graph, inputs, state, &[], 1000, &mut out);
-    let n = told.count;
-    io::write_all(STDOUT_FILENO, &out[..n]);
-}
-
-fn trace(graph: &[u32], inputs: &[u32], state: &mut [u32]) {
-    let mut out = io::large_buffer();
-    let told = rehearsal::trace_graph(graph, inputs, state, &[], 1000, STDOUT_FILENO, &mut out);
+    let told = rehearsal::run_graph(graph, &[], &[], inputs, state, &[], 1000, how, &mut out);
     let n = told.count;
     io::write_all(STDOUT_FILENO, &out[..n]);
 }
 
 fn rehearse_twice(graph: &[u32], inputs: &[u32], state: &mut [u32]) {
-    rehearse(graph, inputs, state);
-    trace(graph, inputs, state);
+    rehearse(graph, inputs, state, false);
+    rehearse(graph, inputs, state, true);
 }
 
 fn rehearse_text(text: &[u8]) {

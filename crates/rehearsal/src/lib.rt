@@ -2,6 +2,7 @@
 ghost use Prim.Native.Nat.{_≤_, _+_};
 ghost use lib.ListN.{length};
 use run::Ran;
+use traced::How;
 
 const INPUTS: u32 = 16;
 
@@ -127,7 +128,18 @@ fn put_ended(out: &mut [u8], at: usize, answer: u32, firings: u64) -> usize
     text::put(out, c, b" firings")
 }
 
-fn put_ran(out: &mut [u8], at: usize, ran: Ran) -> usize
+fn put_stalled(out: &mut [u8], at: usize, graph: &[u32], nodes: &[u32], node: u32) -> usize
+    requires { ⌜ at ≤ length (now out) ⌝ }
+    ensures { λ r. ⌜ r ≤ length (now (out .entry)) ⌝ }
+{
+    let n = text::put(out, at, b" at ");
+    if node < 8192 {
+        return roles::put_node(out, n, graph, nodes, node as usize);
+    }
+    n
+}
+
+fn put_ran(out: &mut [u8], at: usize, graph: &[u32], nodes: &[u32], ran: Ran) -> usize
     requires { ⌜ at ≤ length (now out) ⌝ }
     ensures { λ r. ⌜ r ≤ length (now (out .entry)) ⌝ }
 {
@@ -135,12 +147,43 @@ fn put_ran(out: &mut [u8], at: usize, ran: Ran) -> usize
         Ran::Complete(firings) => put_ended(out, at, 0, firings),
         Ran::ZeroStep(firings, node) => {
             let n = put_ended(out, at, 1, firings);
-            let m = text::put(out, n, b" at node");
-            text::put_next(out, m, node as u64)
+            put_stalled(out, n, graph, nodes, node)
         }
         Ran::Stranded(firings) => put_ended(out, at, 2, firings),
         Ran::Spent(firings) => put_ended(out, at, 3, firings),
         Ran::Refused(number) => told::put_rule(out, at, number),
+    }
+}
+
+fn put_zero_step(out: &mut [u8], at: usize, graph: &[u32], wires: &[u32], node: u32) -> usize
+    requires { ⌜ at ≤ length (now out) ⌝ }
+    ensures { λ r. ⌜ r ≤ length (now (out .entry)) ⌝ }
+{
+    if node < 8192 {
+        return standing::put_zero_step(out, at, graph, wires, node as usize);
+    }
+    at
+}
+
+// What is to be known of a run that did not complete.
+fn put_why(
+    out: &mut [u8],
+    at: usize,
+    graph: &[u32],
+    state: &[u32],
+    nodes: &[u32],
+    wires: &[u32],
+    ran: Ran,
+) -> usize
+    requires { ⌜ at ≤ length (now out) ⌝ }
+    ensures { λ r. ⌜ r ≤ length (now (out .entry)) ⌝ }
+{
+    match ran {
+        Ran::ZeroStep(firings, node) => put_zero_step(out, at, graph, wires, node),
+        Ran::Stranded(firings) => standing::put_tokens(out, at, graph, state, nodes, wires),
+        Ran::Spent(firings) => standing::put_spent(out, at, graph, state, nodes),
+        Ran::Complete(firings) => at,
+        Ran::Refused(number) => at,
     }
 }
 
@@ -156,11 +199,11 @@ fn put_counts(out: &mut [u8], at: usize, graph: &[u32]) -> usize
 }
 
 // The answer, the firings and the counts.
-fn put_answered(out: &mut [u8], at: usize, graph: &[u32], ran: Ran) -> usize
+fn put_answered(out: &mut [u8], at: usize, graph: &[u32], nodes: &[u32], ran: Ran) -> usize
     requires { ⌜ at ≤ length (now out) ⌝ }
     ensures { λ r. ⌜ r ≤ length (now (out .entry)) ⌝ }
 {
-    let n = put_ran(out, at, ran);
+    let n = put_ran(out, at, graph, nodes, ran);
     put_counts(out, n, graph)
 }
 
@@ -175,13 +218,17 @@ fn refusal_of(ran: Ran) -> u32 {
     }
 }
 
-// Loads and runs a graph in the lent state, which has the length that the graph asks, and tells the answer, the firings, the counts and the results.
+// Loads and runs a graph in the lent state, which has the length that the graph asks, told as `how` says, and tells the answer, the firings, the counts and the results.
+// `nodes` and `wires` are the names of `roles`; without them rows and roles are left out.
 pub fn run_graph(
     graph: &[u32],
+    nodes: &[u32],
+    wires: &[u32],
     inputs: &[u32],
     state: &mut [u32],
     order: &[u32],
     allowance: u64,
+    how: How,
     out: &mut [u8],
 ) -> Rehearsed
     ensures { λ r. ⌜ r .count ≤ length (now (out .entry)) ⌝ }
@@ -190,41 +237,29 @@ pub fn run_graph(
     if number != 0 {
         return put_refused(out, number, graph, inputs.len());
     }
-    let ran = run::run(graph, state, order, allowance);
-    put_rested(out, graph, state, ran)
-}
-
-// The same, with each firing told on `to` first.
-pub fn trace_graph(
-    graph: &[u32],
-    inputs: &[u32],
-    state: &mut [u32],
-    order: &[u32],
-    allowance: u64,
-    to: i32,
-    out: &mut [u8],
-) -> Rehearsed
-    ensures { λ r. ⌜ r .count ≤ length (now (out .entry)) ⌝ }
-{
-    let number = machine::load(graph, inputs, state);
-    if number != 0 {
-        return put_refused(out, number, graph, inputs.len());
-    }
-    let ran = traced::run_told(graph, state, order, allowance, to);
-    put_rested(out, graph, state, ran)
+    let ran = traced::run_told(graph, nodes, wires, state, order, allowance, how);
+    put_rested(out, graph, nodes, wires, state, ran)
 }
 
 // What a run has left.
-fn put_rested(out: &mut [u8], graph: &[u32], state: &[u32], ran: Ran) -> Rehearsed
+fn put_rested(
+    out: &mut [u8],
+    graph: &[u32],
+    nodes: &[u32],
+    wires: &[u32],
+    state: &[u32],
+    ran: Ran,
+) -> Rehearsed
     ensures { λ r. ⌜ r .count ≤ length (now (out .entry)) ⌝ }
 {
     let number = refusal_of(ran);
     if number != 0 {
         return put_refused(out, number, graph, 0);
     }
-    let n = put_answered(out, 0, graph, ran);
+    let a = put_answered(out, 0, graph, nodes, ran);
+    let b = put_why(out, a, graph, state, nodes, wires, ran);
     Rehearsed {
-        count: put_results(out, n, graph, state),
+        count: put_results(out, b, graph, state),
         refused: false,
     }
 }
@@ -232,10 +267,13 @@ fn put_rested(out: &mut [u8], graph: &[u32], state: &[u32], ran: Ran) -> Rehears
 // Loads and runs a graph, and draws it with the tokens that stand on its wires then. The answer is a comment above the drawing.
 pub fn draw_graph(
     graph: &[u32],
+    nodes: &[u32],
+    wires: &[u32],
     inputs: &[u32],
     state: &mut [u32],
     order: &[u32],
     allowance: u64,
+    how: How,
     out: &mut [u8],
 ) -> Rehearsed
     ensures { λ r. ⌜ r .count ≤ length (now (out .entry)) ⌝ }
@@ -244,11 +282,11 @@ pub fn draw_graph(
     if number != 0 {
         return put_refused(out, number, graph, inputs.len());
     }
-    let ran = run::run(graph, state, order, allowance);
-    put_drawn(out, graph, state, ran)
+    let ran = traced::run_told(graph, nodes, wires, state, order, allowance, how);
+    put_drawn(out, graph, nodes, state, ran)
 }
 
-fn put_drawn(out: &mut [u8], graph: &[u32], state: &[u32], ran: Ran) -> Rehearsed
+fn put_drawn(out: &mut [u8], graph: &[u32], nodes: &[u32], state: &[u32], ran: Ran) -> Rehearsed
     ensures { λ r. ⌜ r .count ≤ length (now (out .entry)) ⌝ }
 {
     let number = refusal_of(ran);
@@ -256,7 +294,7 @@ fn put_drawn(out: &mut [u8], graph: &[u32], state: &[u32], ran: Ran) -> Rehearse
         return put_refused(out, number, graph, 0);
     }
     let a = text::put(out, 0, b"// ");
-    let b = put_answered(out, a, graph, ran);
+    let b = put_answered(out, a, graph, nodes, ran);
     Rehearsed {
         count: drawn::put_drawing(out, b, graph, state, &[], &[]),
         refused: false,

@@ -12,10 +12,10 @@ use Rattle.traced.proofs.follow_order.Statement.{statement}
 use Rattle.traced.proofs.follow_order.Tie as tie
 
 abbrev Inv-loop : tie.InvT-loop
-Inv-loop graph state₀ order allowance to left₀ k₀ state left k = (k ≤ length order) × (length state ≡ length state₀) × (left ≤ allowance) × (follow (netOf graph) (drop k order) (at state left) ≡ follow (netOf graph) order (at state₀ allowance))
+Inv-loop graph nodes wires state₀ order allowance how left₀ k₀ state left k = (k ≤ length order) × (length state ≡ length state₀) × (left ≤ allowance) × (follow (netOf graph) (drop k order) (at state left) ≡ follow (netOf graph) order (at state₀ allowance))
 
 abbrev μ-loop : tie.MeasureT-loop
-μ-loop graph state₀ order allowance to left₀ k₀ state left k = length order - k
+μ-loop graph nodes wires state₀ order allowance how left₀ k₀ state left k = length order - k
 
 loop-holds : tie.Need-loop-holds Inv-loop μ-loop
 loop-holds c = (omega arith, refl, omega arith, refl)
@@ -30,7 +30,7 @@ wide-requires : tie.Need-wide-requires Inv-loop μ-loop
 wide-requires c κs = search needs
 
 turn-of-requires : tie.Need-turn-of-requires Inv-loop μ-loop
-turn-of-requires c κs = (record { graph = c .before .before .before .before .before .before .before .before .pre .0 .graph; size = c .before .before .before .before .loop .inv .1 ∙ c .before .before .before .before .before .before .before .before .pre .0 .size }, (let h = c .before .before .before .before .before .before .before .before .pre .1 (c .before .before .before .before .loop .k) (omega arith) in let e = c .wide .ensures .0 in omega arith), omega arith)
+turn-of-requires c κs = (record { graph = c .before .before .before .before .before .before .before .before .before .before .pre .0 .graph; size = c .before .before .before .before .loop .inv .1 ∙ c .before .before .before .before .before .before .before .before .before .before .pre .0 .size }, (let h = c .before .before .before .before .before .before .before .before .before .before .pre .1 (c .before .before .before .before .loop .k) (omega arith) in let e = c .wide .ensures .0 in omega arith), omega arith)
 
 add-k : tie.Need-add-k Inv-loop μ-loop
 add-k c = omega arith
@@ -39,7 +39,7 @@ loop-less : tie.Need-loop-less Inv-loop μ-loop
 loop-less c = omega arith
 
 loop-again : tie.Need-loop-again Inv-loop μ-loop
-loop-again c = (omega arith, c .before .before .turn-of .kept .1 .0 ∙ c .before .before .before .before .before .before .before .loop .inv .1, omega arith, rw (c .before .before .turn-of .ensures .0, c .before .before .before .wide .ensures .0) (sym (follow-go _ _ _ _ (c .before .before .before .before .before .before .loop-test .taken)) ∙ c .before .before .before .before .before .before .before .loop .inv .3))
+loop-again c = (omega arith, c .before .before .turn-of .kept .1 .1 .1 .0 ∙ c .before .before .before .before .before .before .before .loop .inv .1, omega arith, rw (c .before .before .turn-of .ensures .0, c .before .before .before .wide .ensures .0) (sym (follow-go _ _ _ _ (c .before .before .before .before .before .before .loop-test .taken)) ∙ c .before .before .before .before .before .before .before .loop .inv .3))
 
 same-length : tie.Need-same-length Inv-loop μ-loop
 same-length c = c .before .loop .inv .1

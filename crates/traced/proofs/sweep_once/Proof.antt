@@ -15,13 +15,13 @@ use Rattle.traced.proofs.sweep_once.Statement.{statement}
 use Rattle.traced.proofs.sweep_once.Tie as tie
 
 abbrev Inv-loop : tie.InvT-loop
-Inv-loop graph state₀ given allowance to nodes left₀ i₀ state left i = (i ≤ nodes) × (nodes ≡ nodeCount graph) × (length state ≡ length state₀) × (left ≤ given) × (sweepFrom (netOf graph) (nodes - i) i (at state left) ≡ sweep (netOf graph) (nodeCount graph) (at state₀ given))
+Inv-loop graph nodes wires state₀ given allowance how count left₀ i₀ state left i = (i ≤ count) × (count ≡ nodeCount graph) × (length state ≡ length state₀) × (left ≤ given) × (sweepFrom (netOf graph) (count - i) i (at state left) ≡ sweep (netOf graph) (nodeCount graph) (at state₀ given))
 
 abbrev μ-loop : tie.MeasureT-loop
-μ-loop graph state₀ given allowance to nodes left₀ i₀ state left i = nodes - i
+μ-loop graph nodes wires state₀ given allowance how count left₀ i₀ state left i = count - i
 
 shared-slice-read-wide : tie.Need-shared-slice-read-wide Inv-loop μ-loop
-shared-slice-read-wide c = let a = accepted _ (c .before .before .before .pre .0 .graph) .shape in omega arith
+shared-slice-read-wide c = let a = accepted _ (c .before .before .before .before .before .pre .0 .graph) .shape in omega arith
 
 wide-requires : tie.Need-wide-requires Inv-loop μ-loop
 wide-requires c κs = search needs
@@ -30,7 +30,7 @@ loop-holds : tie.Need-loop-holds Inv-loop μ-loop
 loop-holds c = (omega arith, c .wide .ensures .0, refl, omega arith, rw (sub-zero, c .wide .ensures .0))
 
 turn-of-requires : tie.Need-turn-of-requires Inv-loop μ-loop
-turn-of-requires c κs = (record { graph = c .before .before .before .before .before .before .before .pre .0 .graph; size = c .before .before .loop .inv .2 ∙ c .before .before .before .before .before .before .before .pre .0 .size }, omega arith, omega arith)
+turn-of-requires c κs = (record { graph = c .before .before .before .before .before .before .before .before .before .pre .0 .graph; size = c .before .before .loop .inv .2 ∙ c .before .before .before .before .before .before .before .before .before .pre .0 .size }, omega arith, omega arith)
 
 add-i : tie.Need-add-i Inv-loop μ-loop
 add-i c = omega arith
@@ -39,7 +39,7 @@ loop-less : tie.Need-loop-less Inv-loop μ-loop
 loop-less c = omega arith
 
 loop-again : tie.Need-loop-again Inv-loop μ-loop
-loop-again c = (omega arith, c .before .before .before .before .before .loop .inv .1, c .before .before .turn-of .kept .1 .0 ∙ c .before .before .before .before .before .loop .inv .2, omega arith, rw (c .before .before .turn-of .ensures .0) (sym (sweep-go _ _ _ _ (c .before .before .before .before .loop-test .taken)) ∙ c .before .before .before .before .before .loop .inv .4))
+loop-again c = (omega arith, c .before .before .before .before .before .loop .inv .1, c .before .before .turn-of .kept .1 .1 .1 .0 ∙ c .before .before .before .before .before .loop .inv .2, omega arith, rw (c .before .before .turn-of .ensures .0) (sym (sweep-go _ _ _ _ (c .before .before .before .before .loop-test .taken)) ∙ c .before .before .before .before .before .loop .inv .4))
 
 same-length : tie.Need-same-length Inv-loop μ-loop
 same-length c = c .before .loop .inv .2
