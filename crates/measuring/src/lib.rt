@@ -47,8 +47,7 @@ pub fn measure(
     ensures { λ r. ⌜ Measured (now (table .entry)) (now (rows .exit)) (now (outs .exit)) (now (uses .exit)) (now (free .exit)) (r .plain) (r .sources) (r .nodes) (r .wires) (r .starts) (r .results) (r .exact) (r .room) ⌝ }
 {
     let laid = laying::lay(table, n, rows, outs);
-    if in_limits(laid.nodes, laid.wires) {
-    } else {
+    if in_limits(laid.nodes, laid.wires) {} else {
         return Sizes {
             plain: laid.nodes,
             sources: laid.wires,
