@@ -2,7 +2,7 @@
 -- Assumes nothing.
 use Prim.Native.Nat.{ℕ, _+_, _*_, _<_, _≤_}
 use mathlib.Core.Path.{_≡_, refl, sym, ap, _∙_}
-use mathlib.Core.Bool.{Bool, true, false, cond, _&&_, not}
+use mathlib.Core.Bool.{Bool, true, false, cond, _&&_}
 use mathlib.Core.List.{List}
 use native.Mathlib.Omega.{arith}
 use borrow.Author.Tests.{ne-eqb, le-leb, lt-leb}
@@ -14,7 +14,7 @@ use Rattle.table.specs.Check.{Refusal, answer, tableRefusal}
 use Rattle.lowered.specs.Lower.{loweredWords}
 use Rattle.lowered.specs.Room.{hasRoom, fitsInto, refusedBy, checkAnswer, lowerRefusal, lowerAnswer, lentAfter}
 use Rattle.laid.specs.Words.{words-long}
-use Rattle.measuring.specs.Passed.{number-is}
+use Rattle.measuring.specs.Passed.{and-false, refused-by, passed-by}
 use Rattle.measuring.specs.Ready.{Counted}
 use Rattle.lowering.specs.Answers.{LowerAnswer}
 
@@ -29,38 +29,21 @@ words-are t C a b c =
     let e2 = C .nodes in
     omega arith
 
--- what a test of `!b` says
-pub off : (b : Bool) → not b ≡ true → b ≡ false
-off true e = sym e
-off false e = refl
-
-pub on : (b : Bool) → not b ≡ false → b ≡ true
-on true e = refl
-on false e = sym e
-
 module _ (t : List ℕ) {k r : ℕ} (e : answer k r ≡ tableRefusal t) where
-  refused-by : (room : Bool) → (k ≡ 0 → ⊥) → answer k r ≡ refusedBy t room
-  unfolding refusedBy
-  refused-by room n = rw (ne-eqb (tableRefusal t .number) 0 (λ q. n (sym (number-is t e) ∙ q))) e
-
-  passed-by : (room : Bool) → k ≡ 0 → refusedBy t room ≡ cond room (answer 0 0) (answer 10 (size t))
-  unfolding refusedBy
-  passed-by room z = rw (number-is t e, z)
-
   -- ---- check_table
 
   pub check-refused : (k ≡ 0 → ⊥) → answer k r ≡ checkAnswer t
   unfolding checkAnswer
-  check-refused n = refused-by (hasRoom t) n
+  check-refused n = refused-by t e (hasRoom t) n
 
   pub check-done : {b : Bool} → k ≡ 0 → b ≡ hasRoom t → b ≡ true → answer 0 0 ≡ checkAnswer t
   unfolding checkAnswer
-  check-done z h b = sym (passed-by (hasRoom t) z ∙ ap (λ (x : Bool). cond x (answer 0 0) (answer 10 (size t))) (sym h ∙ b))
+  check-done z h b = sym (passed-by t e (hasRoom t) z ∙ ap (λ (x : Bool). cond x (answer 0 0) (answer 10 (size t))) (sym h ∙ b))
 
   pub check-crowded : {b : Bool} {n : ℕ} → k ≡ 0 → n ≡ size t → b ≡ hasRoom t → b ≡ false → answer 10 n ≡ checkAnswer t
   unfolding checkAnswer
   check-crowded z en h b =
-      ap (answer 10) en ∙ sym (passed-by (hasRoom t) z ∙ ap (λ (x : Bool). cond x (answer 0 0) (answer 10 (size t))) (sym h ∙ b))
+      ap (answer 10) en ∙ sym (passed-by t e (hasRoom t) z ∙ ap (λ (x : Bool). cond x (answer 0 0) (answer 10 (size t))) (sym h ∙ b))
 
   -- ---- lower
 
@@ -74,12 +57,12 @@ module _ (t : List ℕ) {k r : ℕ} (e : answer k r ≡ tableRefusal t) where
 
     pub lower-refused : (k ≡ 0 → ⊥) → LowerAnswer t lent k r 0 lent
     unfolding lowerRefusal
-    lower-refused n = refused (refused-by (fitsInto t (length lent)) n) n
+    lower-refused n = refused (refused-by t e (fitsInto t (length lent)) n) n
 
     without : {n : ℕ} → k ≡ 0 → n ≡ size t → fitsInto t (length lent) ≡ false → LowerAnswer t lent 10 n 0 lent
     unfolding lowerRefusal
     without z en h =
-        refused (ap (answer 10) en ∙ sym (passed-by (fitsInto t (length lent)) z ∙ ap (λ (x : Bool). cond x (answer 0 0) (answer 10 (size t))) h)) (λ q. omega arith)
+        refused (ap (answer 10) en ∙ sym (passed-by t e (fitsInto t (length lent)) z ∙ ap (λ (x : Bool). cond x (answer 0 0) (answer 10 (size t))) h)) (λ q. omega arith)
 
     pub lower-crowded : {b : Bool} {n : ℕ} → k ≡ 0 → n ≡ size t → b ≡ hasRoom t → b ≡ false → LowerAnswer t lent 10 n 0 lent
     unfolding fitsInto
@@ -87,11 +70,7 @@ module _ (t : List ℕ) {k r : ℕ} (e : answer k r ≡ tableRefusal t) where
 
     pub lower-lent : {n words : ℕ} → k ≡ 0 → n ≡ size t → words ≡ length (loweredWords t) → length lent < words → LowerAnswer t lent 10 n 0 lent
     unfolding fitsInto
-    lower-lent z en h l = without z en (rw (lt-leb (length (loweredWords t)) (length lent) (omega arith)) (none (hasRoom t)))
-      where
-        none : (b : Bool) → b && false ≡ false
-        none true = refl
-        none false = refl
+    lower-lent z en h l = without z en (rw (lt-leb (length (loweredWords t)) (length lent) (omega arith)) (and-false (hasRoom t)))
 
     pub lower-done : {b : Bool} {words : ℕ} {after : List ℕ} → k ≡ 0 → b ≡ hasRoom t → b ≡ true → words ≡ length (loweredWords t) → words ≤ length lent
         → after ≡ sets lent 0 (loweredWords t) → LowerAnswer t lent 0 0 words after
@@ -99,5 +78,5 @@ module _ (t : List ℕ) {k r : ℕ} (e : answer k r ≡ tableRefusal t) where
     lower-done z h b w l done =
         let room : hasRoom t ≡ true = sym h ∙ b in
         let fits : hasRoom t && leb (length (loweredWords t)) (length lent) ≡ true = rw (room, le-leb (length (loweredWords t)) (length lent) (omega arith)) in
-        let q : refusedBy t (hasRoom t && leb (length (loweredWords t)) (length lent)) ≡ answer 0 0 = passed-by _ z ∙ ap (λ (x : Bool). cond x (answer 0 0) (answer 10 (size t))) fits in
+        let q : refusedBy t (hasRoom t && leb (length (loweredWords t)) (length lent)) ≡ answer 0 0 = passed-by t e _ z ∙ ap (λ (x : Bool). cond x (answer 0 0) (answer 10 (size t))) fits in
         record { answer = rw (q, w); lent-words = rw q done }

@@ -20,7 +20,7 @@ use Rattle.written.specs.Numbers.{useCount}
 use Rattle.forking.specs.Tallied.{Below, tallied-below}
 use Rattle.forking.specs.Forked.{Freed}
 use Rattle.forking.specs.Written.{rowInputs, rowOuts, Scratch, usesOf, joined-long}
-use Rattle.measuring.specs.Passed.{number-is}
+use Rattle.measuring.specs.Passed.{and-false, number-is}
 use Rattle.measuring.specs.Counts.{Counts, counts, withForks, countsOf, countAnswer}
 use Rattle.measuring.specs.Ready.{starts-few, results-few, scratch-of, uses-of, wires-added, wire-total-of, node-total-of, Ready, Measured}
 
@@ -37,13 +37,9 @@ module _ (t : List ℕ) where
   unfolding withForks hasRoom nodeTotal wireTotal
   no-room h = go (decLe (plainNodes t) 4096) (decLe (plainWires t) 8192)
     where
-      none : (b : Bool) → b && false ≡ false
-      none true = refl
-      none false = refl
-
       go : Dec (plainNodes t ≤ 4096) → Dec (plainWires t ≤ 8192) → hasRoom t ≡ false
       go (no a) d = rw (lt-leb (plainNodes t + allForkNodes (allUsers t)) 4096 (omega arith))
-      go (yes a) (no b) = rw (lt-leb (plainWires t + allForkWires (allUsers t)) 8192 (omega arith)) (none (leb (plainNodes t + allForkNodes (allUsers t)) 4096))
+      go (yes a) (no b) = rw (lt-leb (plainWires t + allForkWires (allUsers t)) 8192 (omega arith)) (and-false (leb (plainNodes t + allForkNodes (allUsers t)) 4096))
       go (yes a) (yes b) = absurd (false≢true (sym h ∙ (rw (le-leb (plainNodes t) 4096 a, le-leb (plainWires t) 8192 b))))
 
   room : Structure t → leb (nodeTotal t) 4096 && leb (wireTotal t) 8192 ≡ hasRoom t

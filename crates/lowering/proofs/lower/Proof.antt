@@ -6,8 +6,8 @@ use native.Mathlib.Omega.{arith}
 use borrow.Author.Needs.{needs}
 use lib.ListN.{length-replicate}
 use Rattle.forking.specs.Tallied.{none-tallied}
-use Rattle.measuring.specs.Passed.{few-rows, passing}
-use Rattle.lowering.proofs.Answers.{words-are, lower-refused, lower-crowded, lower-lent, lower-done, off, on}
+use Rattle.measuring.specs.Passed.{off, on, few-rows, passing}
+use Rattle.lowering.proofs.Answers.{words-are, lower-refused, lower-crowded, lower-lent, lower-done}
 use Rattle.lowering.proofs.lower.Statement.{statement}
 use Rattle.lowering.proofs.lower.Tie as tie
 
