@@ -20,6 +20,9 @@ const DRAW: u32 = 4;
 
 const ROOM: u32 = 10;
 
+// No line is behind it.
+const ANY_LINE: u64 = 18446744073709551615;
+
 // What is to be done, and where it is told.
 struct Job {
     command: u32,
@@ -44,16 +47,7 @@ A table is a file of decimal words, six to a row; # starts a comment.
     );
 }
 
-// Refusals of a table. The text tells where a line has not the six words of a row: the rows behind it are then not those that were meant, so it is told first.
-
-fn note_odd(err: i32, path: &[u8], text: &[u8]) {
-    let odd = typed::odd_line(text);
-    if odd.line != 0 {
-        let mut what = io::buffer();
-        let n = typed::put_odd(&mut what, 0, odd);
-        files::complain(err, path, &what[..n]);
-    }
-}
+// Refusals of a table.
 
 fn put_refused(out: &mut [u8], path: &[u8], table: &[u32], number: u32) -> usize
     ensures { λ r. ⌜ r ≤ length (now (out .entry)) ⌝ }
@@ -68,7 +62,7 @@ fn put_refused(out: &mut [u8], path: &[u8], table: &[u32], number: u32) -> usize
 }
 
 fn refuse(err: i32, path: &[u8], text: &[u8], table: &[u32], number: u32) -> u32 {
-    note_odd(err, path, text);
+    files::note_odd(err, path, text, ANY_LINE);
     let mut out = io::large_buffer();
     let n = put_refused(&mut out, path, table, number);
     io::write_all(err, &out[..n]);

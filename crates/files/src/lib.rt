@@ -104,8 +104,29 @@ fn nothing_got() -> Got
     }
 }
 
+// A line that has not the six words of a row moves the rows behind it, so it is told before what is wrong in line `before` or behind it.
+pub fn note_odd(err: i32, path: &[u8], text: &[u8], before: u64) {
+    let odd = typed::odd_line(text);
+    if odd.line == 0 {
+        return;
+    }
+    if odd.line < before {
+        let mut what = io::buffer();
+        let n = typed::put_odd(&mut what, 0, odd);
+        complain(err, path, &what[..n]);
+    }
+}
+
+fn note_odd_before(err: i32, path: &[u8], text: &[u8], at: usize, rows: bool) {
+    if rows {
+        let place = typed::place_of(text, at);
+        note_odd(err, path, text, place.line);
+    }
+}
+
 // A text that is no list of words.
 fn misread(err: i32, path: &[u8], text: &[u8], typed: typed::Typed, rows: bool) {
+    note_odd_before(err, path, text, typed.at, rows);
     let mut what = io::buffer();
     let n = typed::put_problem(&mut what, 0, text, typed, rows);
     complain(err, path, &what[..n]);

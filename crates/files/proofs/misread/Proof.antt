@@ -6,6 +6,9 @@ use lib.Seq.{length-take-le}
 use Rattle.files.proofs.misread.Statement.{statement}
 use Rattle.files.proofs.misread.Tie as tie
 
+note-odd-before-requires : tie.Need-note-odd-before-requires
+note-odd-before-requires c κs = search needs
+
 buffer-requires : tie.Need-buffer-requires
 buffer-requires c κs = search needs
 
@@ -31,6 +34,7 @@ pub misread-spec : {M : Type 1} → statement M
 misread-spec =
     tie.close
     (tie.spec
+    note-odd-before-requires
     buffer-requires
     slice-aggregate-put-problem
     put-problem-requires

@@ -1,13 +1,16 @@
--- `commands::note_odd` is safe and ends. Assumes nothing.
+-- `files::note_odd` is safe and ends. Assumes nothing.
 use mathlib.Core.Path.{sym}
 use native.Mathlib.Omega.{arith}
 use borrow.Author.Needs.{needs}
 use lib.Seq.{length-take-le}
-use Rattle.commands.proofs.note_odd.Statement.{statement}
-use Rattle.commands.proofs.note_odd.Tie as tie
+use Rattle.files.proofs.note_odd.Statement.{statement}
+use Rattle.files.proofs.note_odd.Tie as tie
 
 odd-line-requires : tie.Need-odd-line-requires
 odd-line-requires c κs = search needs
+
+returns : tie.Need-returns
+returns c = search needs
 
 buffer-requires : tie.Need-buffer-requires
 buffer-requires c κs = search needs
@@ -27,22 +30,23 @@ slice-aggregate-complain c = sym (length-take-le _ _ (omega arith))
 complain-requires : tie.Need-complain-requires
 complain-requires c κs = search needs
 
-returns : tie.Need-returns
-returns c = search needs
-
 returns-2 : tie.Need-returns-2
 returns-2 c = search needs
+
+returns-3 : tie.Need-returns-3
+returns-3 c = search needs
 
 pub note-odd-spec : {M : Type 1} → statement M
 note-odd-spec =
     tie.close
     (tie.spec
     odd-line-requires
+    returns
     buffer-requires
     slice-aggregate-put-odd
     put-odd-requires
     array-share-prefix-what
     slice-aggregate-complain
     complain-requires
-    returns
-    returns-2)
+    returns-2
+    returns-3)
