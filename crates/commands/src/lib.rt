@@ -7,6 +7,7 @@ use files::DONE;
 use files::ERROR;
 use files::Got;
 use files::REFUSED;
+use traced::How;
 
 // The commands on a table.
 
@@ -88,8 +89,8 @@ fn check(job: Job, path: &[u8], text: &[u8], table: &[u32]) -> u32 {
 
 // Graphs.
 
-fn list(job: Job, graph: &[u32], out: &mut [u8]) -> u32 {
-    let n = drawn::put_graph(out, 0, graph);
+fn list(job: Job, graph: &[u32], nodes: &[u32], wires: &[u32], out: &mut [u8]) -> u32 {
+    let n = listed::put_list(out, 0, graph, nodes, wires);
     files::answer(job.out, job.err, &out[..n])
 }
 
@@ -127,6 +128,8 @@ fn put_rehearsed(
     job: Job,
     inputs: &[u32],
     graph: &[u32],
+    nodes: &[u32],
+    wires: &[u32],
     order: &[u32],
     state: &mut [u32],
     out: &mut [u8],
@@ -134,13 +137,35 @@ fn put_rehearsed(
     ensures { λ r. ⌜ r .count ≤ length (now (out .entry)) ⌝ }
 {
     let asked = job.asked;
+    let how = How {
+        trace: asked.trace,
+        to: job.out,
+        err: job.err,
+    };
     if job.command == DRAW {
-        return rehearsal::draw_graph(graph, inputs, state, order, asked.allowance, out);
+        return rehearsal::draw_graph(
+            graph,
+            nodes,
+            wires,
+            inputs,
+            state,
+            order,
+            asked.allowance,
+            how,
+            out,
+        );
     }
-    if asked.trace {
-        return rehearsal::trace_graph(graph, inputs, state, order, asked.allowance, job.out, out);
-    }
-    rehearsal::run_graph(graph, inputs, state, order, asked.allowance, out)
+    rehearsal::run_graph(
+        graph,
+        nodes,
+        wires,
+        inputs,
+        state,
+        order,
+        asked.allowance,
+        how,
+        out,
+    )
 }
 
 // What a rehearsal told goes to its channel.
@@ -152,35 +177,73 @@ fn tell(job: Job, refused: bool, text: &[u8]) -> u32 {
     files::answer(job.out, job.err, text)
 }
 
-fn rehearse(job: Job, inputs: &[u32], graph: &[u32], order: &[u32], out: &mut [u8]) -> u32 {
+fn rehearse(
+    job: Job,
+    inputs: &[u32],
+    graph: &[u32],
+    nodes: &[u32],
+    wires: &[u32],
+    order: &[u32],
+    out: &mut [u8],
+) -> u32 {
     let mut state = [0u32; 32768];
     let k = rehearsal::state_words(graph);
-    let rehearsed = put_rehearsed(job, inputs, graph, order, &mut state[..k], out);
+    let rehearsed = put_rehearsed(
+        job,
+        inputs,
+        graph,
+        nodes,
+        wires,
+        order,
+        &mut state[..k],
+        out,
+    );
     let n = rehearsed.count;
     tell(job, rehearsed.refused, &out[..n])
 }
 
-fn run(job: Job, inputs: &[u32], line: &[u8], graph: &[u32], text: &mut [u8]) -> u32 {
+fn run(
+    job: Job,
+    inputs: &[u32],
+    line: &[u8],
+    graph: &[u32],
+    nodes: &[u32],
+    wires: &[u32],
+    text: &mut [u8],
+) -> u32 {
     let mut order = [0u32; 65536];
     let got = order_of(job, line, graph, text, &mut order);
     if got.fine {
         let n = got.count;
-        return rehearse(job, inputs, graph, &order[..n], text);
+        return rehearse(job, inputs, graph, nodes, wires, &order[..n], text);
     }
     ERROR
 }
 
-fn on_graph(job: Job, inputs: &[u32], line: &[u8], graph: &[u32], text: &mut [u8]) -> u32 {
+fn on_named(
+    job: Job,
+    inputs: &[u32],
+    line: &[u8],
+    graph: &[u32],
+    nodes: &[u32],
+    wires: &[u32],
+    text: &mut [u8],
+) -> u32 {
     let asked = job.asked;
     if job.command == LOWER {
-        return list(job, graph, text);
+        return list(job, graph, nodes, wires, text);
     }
     if job.command == DRAW {
         if asked.run {} else {
             return draw(job, graph, text);
         }
     }
-    run(job, inputs, line, graph, text)
+    run(job, inputs, line, graph, nodes, wires, text)
+}
+
+// Nodes and wires are told by their numbers alone where there are no names.
+fn on_graph(job: Job, inputs: &[u32], line: &[u8], graph: &[u32], text: &mut [u8]) -> u32 {
+    on_named(job, inputs, line, graph, &[], &[], text)
 }
 
 // Tables. Once a table is accepted its text is not needed: its memory holds the order list's file, then the answer.
