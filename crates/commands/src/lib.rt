@@ -94,8 +94,8 @@ fn list(job: Job, graph: &[u32], nodes: &[u32], wires: &[u32], out: &mut [u8]) -
     files::answer(job.out, job.err, &out[..n])
 }
 
-fn draw(job: Job, graph: &[u32], out: &mut [u8]) -> u32 {
-    let n = drawn::put_drawing(out, 0, graph, &[], &[], &[]);
+fn draw(job: Job, graph: &[u32], nodes: &[u32], wires: &[u32], out: &mut [u8]) -> u32 {
+    let n = drawn::put_drawing(out, 0, graph, &[], nodes, wires);
     files::answer(job.out, job.err, &out[..n])
 }
 
@@ -235,15 +235,28 @@ fn on_named(
     }
     if job.command == DRAW {
         if asked.run {} else {
-            return draw(job, graph, text);
+            return draw(job, graph, nodes, wires, text);
         }
     }
     run(job, inputs, line, graph, nodes, wires, text)
 }
 
-// Nodes and wires are told by their numbers alone where there are no names.
-fn on_graph(job: Job, inputs: &[u32], line: &[u8], graph: &[u32], text: &mut [u8]) -> u32 {
-    on_named(job, inputs, line, graph, &[], &[], text)
+// The names of nodes and wires: three words for each of 4,096 and of 8,192. A table that was lowered has them.
+fn on_graph(
+    job: Job,
+    inputs: &[u32],
+    line: &[u8],
+    table: &[u32],
+    graph: &[u32],
+    text: &mut [u8],
+) -> u32 {
+    let mut nodes = [0u32; 12288];
+    let mut wires = [0u32; 24576];
+    let named = naming::name_graph(table, &mut nodes, &mut wires);
+    if named.number != 0 {
+        return on_named(job, inputs, line, graph, &[], &[], text);
+    }
+    on_named(job, inputs, line, graph, &nodes, &wires, text)
 }
 
 // Tables. Once a table is accepted its text is not needed: its memory holds the order list's file, then the answer.
@@ -266,7 +279,7 @@ fn lower(
     }
     let n = lowered.length;
     if n <= graph.len() {
-        return on_graph(job, inputs, line, &graph[..n], text);
+        return on_graph(job, inputs, line, table, &graph[..n], text);
     }
     files::complain(job.err, path, b"the graph is too long");
     ERROR

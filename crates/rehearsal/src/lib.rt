@@ -283,10 +283,17 @@ pub fn draw_graph(
         return put_refused(out, number, graph, inputs.len());
     }
     let ran = traced::run_told(graph, nodes, wires, state, order, allowance, how);
-    put_drawn(out, graph, nodes, state, ran)
+    put_drawn(out, graph, nodes, wires, state, ran)
 }
 
-fn put_drawn(out: &mut [u8], graph: &[u32], nodes: &[u32], state: &[u32], ran: Ran) -> Rehearsed
+fn put_drawn(
+    out: &mut [u8],
+    graph: &[u32],
+    nodes: &[u32],
+    wires: &[u32],
+    state: &[u32],
+    ran: Ran,
+) -> Rehearsed
     ensures { λ r. ⌜ r .count ≤ length (now (out .entry)) ⌝ }
 {
     let number = refusal_of(ran);
@@ -296,7 +303,7 @@ fn put_drawn(out: &mut [u8], graph: &[u32], nodes: &[u32], state: &[u32], ran: R
     let a = text::put(out, 0, b"// ");
     let b = put_answered(out, a, graph, nodes, ran);
     Rehearsed {
-        count: drawn::put_drawing(out, b, graph, state, &[], &[]),
+        count: drawn::put_drawing(out, b, graph, state, nodes, wires),
         refused: false,
     }
 }
