@@ -8,6 +8,7 @@
   tests/model.py draw < words       lists and draws a graph, its tokens and names, as crates/graph_drawn does
   tests/model.py trace < words      runs a graph and tells each firing, as crates/graph_rehearsed does
   tests/model.py lower < table      the words of a table's graph, a line a row, as `rehearse lower` prints them
+  tests/model.py names < table      what each node and each wire of a table's graph is, with its rows, found by following the wires
 
 It shares nothing with the library: tables, graphs and states are Python objects here, and words only at the edges.
 """
@@ -472,6 +473,38 @@ def lower(lent, words):
     return 0, 0, len(g), g + [7] * (lent - len(g))
 
 
+def named(words):
+    """[what, row, of] for each node and each wire of a table's graph. STREAMs, CARRYs, OPs and PICKs stand in the order of their rows, and a guard behind
+    its GATE; all else is told by what feeds it."""
+    graph, table = Graph(lowered(words)[0]), read_table(words)[0]
+    of_kind = lambda *kinds: iter([i for i, r in enumerate(table.rows) if r[0] in kinds])
+    loops, args, ops = of_kind(FOR), of_kind(ARG), of_kind(ROW_OP, ROW_PICK)
+    exits = {a: x for loop in table.args for a, x in zip(table.args[loop], table.nexts[loop])}
+    copied = {}
+    for node in graph.nodes():
+        if node.kind == FORK: copied[node.first] = copied[node.first + 1] = copied.get(node.ins[0], node.ins[0])
+    nodes, wires = [], [(0, i, 0) for i in of_kind(INPUT, CONST)]
+    value = lambda wire: {9: wire[2], 12: exits.get(wire[1])}.get(wire[0], wire[1])
+    before = None
+    for node in graph.nodes():
+        source = [copied.get(x, x) for x in node.wires_in()]
+        feeds = [wires[x] if x < len(wires) else None for x in source]
+        if node.kind == STREAM: new, whats = (1, next(loops), 0), [2, 3]
+        elif node.kind == GATE: new, whats = (2, feeds[0][1], 0), [4, 5]
+        elif node.kind == OP and before == GATE: new, whats = (3, nodes[-1][1], 0), [6]
+        elif node.kind == CARRY: new, whats = (6, next(args), 0), [10]
+        elif node.kind == SPLIT and feeds[1][0] == 10: new, whats = (7, feeds[1][1], 0), [11, 12]
+        elif node.kind == SPLIT: new, whats = (4, feeds[0][1], value(feeds[1])), [7, 8]
+        elif node.kind == INVARIANT: new, whats = (5,) + feeds[1][1:], [9]
+        elif node.kind == FORK: new, whats = (16 + feeds[0][0],) + feeds[0][1:], []
+        elif node.kind == DRAIN: new, whats = (32 + feeds[0][0],) + feeds[0][1:], []
+        else: new, whats = (0, next(ops), 0), [1]
+        nodes.append(new)
+        wires += [(what,) + new[1:] for what in whats]
+        before = node.kind
+    return nodes, wires + [wires[copied[k]] for k in range(len(wires), graph.wires)]
+
+
 class Fault(Exception): pass
 
 
@@ -798,5 +831,7 @@ if __name__ == '__main__':
         print('\n'.join(rehearsed(g, loaded, 1000) + tracing(g, loaded, 1000)[0] + rehearsed(g, loaded, 1000)))
     elif what == ['lower']:
         print('\n'.join(drawing(lowered(table_words(sys.stdin.read()))[0], []))[:].partition('digraph')[0], end='')
+    elif what == ['names']:
+        for part in named(table_words(sys.stdin.read())): print('\n'.join(' '.join(map(str, x)) for x in part))
     else:
         for line in sys.stdin: print(answer(line))

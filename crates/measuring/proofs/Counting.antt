@@ -9,7 +9,7 @@ use native.Mathlib.Decide.{decLe}
 use borrow.Author.Tests.{ne-eqb, le-leb, lt-leb, leb-true}
 use lib.Dec.{leb}
 use lib.ListN.{getD}
-use Rattle.step.specs.Kept.{and-true}
+use Rattle.step.specs.Kept.{and-true as both}
 use Rattle.graph.specs.Below.{joined}
 use Rattle.table.specs.Check.{answer, tableRefusal}
 use Rattle.structure.specs.Structure.{Structure}
@@ -20,7 +20,7 @@ use Rattle.written.specs.Numbers.{useCount}
 use Rattle.forking.specs.Tallied.{Below, tallied-below}
 use Rattle.forking.specs.Forked.{Freed}
 use Rattle.forking.specs.Written.{rowInputs, rowOuts, Scratch, usesOf, joined-long}
-use Rattle.measuring.specs.Passed.{and-false, number-is}
+use Rattle.measuring.specs.Passed.{and-false, and-true, number-is}
 use Rattle.measuring.specs.Counts.{Counts, counts, withForks, countsOf, countAnswer}
 use Rattle.measuring.specs.Ready.{starts-few, results-few, scratch-of, uses-of, wires-added, wire-total-of, node-total-of, Ready, Measured}
 
@@ -44,11 +44,7 @@ module _ (t : List ℕ) where
 
   room : Structure t → leb (nodeTotal t) 4096 && leb (wireTotal t) 8192 ≡ hasRoom t
   unfolding hasRoom
-  room S = rw (le-leb (startTotal t) 512 (starts-few t S), le-leb (resultTotal t) 512 (results-few t S)) (ap (λ (b : Bool). leb (nodeTotal t) 4096 && b) (sym (still (leb (wireTotal t) 8192))))
-    where
-      still : (b : Bool) → b && true ≡ b
-      still true = refl
-      still false = refl
+  room S = rw (le-leb (startTotal t) 512 (starts-few t S), le-leb (resultTotal t) 512 (results-few t S)) (ap (λ (b : Bool). leb (nodeTotal t) 4096 && b) (sym (and-true (leb (wireTotal t) 8192))))
 
 module _ (t : List ℕ) {n w s r : ℕ} (en : n ≡ plainNodes t) (ew : w ≡ plainWires t) (es : s ≡ startTotal t) (er : r ≡ resultTotal t) {b : Bool}
     (eb : b ≡ leb n 4096 && leb w 8192) where
@@ -68,10 +64,10 @@ module _ (t : List ℕ) {n w s r : ℕ} (en : n ≡ plainNodes t) (ew : w ≡ pl
 
   -- in the limits before forks
   pub few-nodes : b ≡ true → n ≤ 4096
-  few-nodes h = leb-true n 4096 (and-true (leb n 4096) (leb w 8192) (sym eb ∙ h) .0)
+  few-nodes h = leb-true n 4096 (both (leb n 4096) (leb w 8192) (sym eb ∙ h) .0)
 
   pub few-wires : b ≡ true → w ≤ 8192
-  few-wires h = leb-true w 8192 (and-true (leb n 4096) (leb w 8192) (sym eb ∙ h) .1)
+  few-wires h = leb-true w 8192 (both (leb n 4096) (leb w 8192) (sym eb ∙ h) .1)
 
 -- ---- the sums
 

@@ -18,6 +18,10 @@ pub and-false : (b : Bool) → b && false ≡ false
 and-false true = refl
 and-false false = refl
 
+pub and-true : (b : Bool) → b && true ≡ b
+and-true true = refl
+and-true false = refl
+
 -- what a test of `!b` says
 pub off : (b : Bool) → not b ≡ true → b ≡ false
 off true e = sym e

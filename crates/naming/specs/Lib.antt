@@ -4,3 +4,4 @@ pub mod Parts
 pub mod Carried
 pub mod Answers
 pub mod Beside
+pub mod Cases
