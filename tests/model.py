@@ -750,7 +750,7 @@ def tracing(g, words, allowance):
             took = [f' {node.ins[k]}={state.tokens[node.ins[k]]}' for k in done[0]]
             gave = [f' {node.first + k}={word}' for k, word in sorted(done[1].items())]
             perform(node, state, i, done)
-            lines.append(f'{len(lines) + 1}: node {i} {name_of(node)} took{"".join(took) or " nothing"} gave{"".join(gave) or " nothing"}')
+            lines.append(f'{len(lines) + 1}: node {i}, {name_of(node)}, took{"".join(took) or " nothing"} gave{"".join(gave) or " nothing"}')
     return lines, state.words()
 
 
@@ -760,7 +760,9 @@ def rehearsed(g, words, allowance):
     graph = Graph(g)
     tokens = State(graph, s).tokens
     name = ['COMPLETE', 'ZERO STEP', 'STRANDED', 'SPENT'][end]
-    out = [f'{name} after {firings} firings' + (f' at node {node}' if end == 1 else '') + f', {g[0]} nodes, {g[1]} wires']
+    stalled = graph.nodes()[node] if end == 1 else None
+    out = [f'{name} after {firings} firings' + (f' at node {node}, {name_of(stalled)}' if stalled else '') + f', {g[0]} nodes, {g[1]} wires']
+    if stalled: out.append(f'its step is the word 0 on wire {stalled.ins[1]}')
     return out + [f'result {k}: {"none" if tokens[x] is None else tokens[x]}' for k, x in enumerate(graph.results)]
 
 

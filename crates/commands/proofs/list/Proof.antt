@@ -1,0 +1,36 @@
+-- `commands::list` is safe and ends. Assumes nothing.
+use mathlib.Core.Path.{sym}
+use native.Mathlib.Omega.{arith}
+use borrow.Author.Needs.{needs}
+use lib.Seq.{length-take-le}
+use Rattle.commands.proofs.list.Statement.{statement}
+use Rattle.commands.proofs.list.Tie as tie
+
+put-list-requires : tie.Need-put-list-requires
+put-list-requires c κs = search needs
+
+slice-reshare-prefix-answer : tie.Need-slice-reshare-prefix-answer
+slice-reshare-prefix-answer c = search needs
+
+slice-aggregate-answer : tie.Need-slice-aggregate-answer
+slice-aggregate-answer c = sym (length-take-le _ _ (omega arith))
+
+answer-requires : tie.Need-answer-requires
+answer-requires c κs = search needs
+
+same-length : tie.Need-same-length
+same-length c = search needs
+
+returns : tie.Need-returns
+returns c = search needs
+
+pub list-spec : {M : Type 1} → statement M
+list-spec =
+    tie.close
+    (tie.spec
+    put-list-requires
+    slice-reshare-prefix-answer
+    slice-aggregate-answer
+    answer-requires
+    same-length
+    returns)
