@@ -9,12 +9,6 @@ use Rattle.commands.proofs.draw.Tie as tie
 slice-aggregate-put-drawing : tie.Need-slice-aggregate-put-drawing
 slice-aggregate-put-drawing c = search needs
 
-slice-aggregate-put-drawing-2 : tie.Need-slice-aggregate-put-drawing-2
-slice-aggregate-put-drawing-2 c = search needs
-
-slice-aggregate-put-drawing-3 : tie.Need-slice-aggregate-put-drawing-3
-slice-aggregate-put-drawing-3 c = search needs
-
 put-drawing-requires : tie.Need-put-drawing-requires
 put-drawing-requires c κs = search needs
 
@@ -38,8 +32,6 @@ draw-spec =
     tie.close
     (tie.spec
     slice-aggregate-put-drawing
-    slice-aggregate-put-drawing-2
-    slice-aggregate-put-drawing-3
     put-drawing-requires
     slice-reshare-prefix-answer
     slice-aggregate-answer

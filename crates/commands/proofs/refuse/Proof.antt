@@ -12,11 +12,11 @@ note-odd-requires c κs = search needs
 large-buffer-requires : tie.Need-large-buffer-requires
 large-buffer-requires c κs = search needs
 
-slice-aggregate-put-refusal : tie.Need-slice-aggregate-put-refusal
-slice-aggregate-put-refusal c = search needs
+slice-aggregate-put-refused : tie.Need-slice-aggregate-put-refused
+slice-aggregate-put-refused c = search needs
 
-put-refusal-requires : tie.Need-put-refusal-requires
-put-refusal-requires c κs = search needs
+put-refused-requires : tie.Need-put-refused-requires
+put-refused-requires c κs = search needs
 
 array-share-prefix-out : tie.Need-array-share-prefix-out
 array-share-prefix-out c = search needs
@@ -36,8 +36,8 @@ refuse-spec =
     (tie.spec
     note-odd-requires
     large-buffer-requires
-    slice-aggregate-put-refusal
-    put-refusal-requires
+    slice-aggregate-put-refused
+    put-refused-requires
     array-share-prefix-out
     slice-aggregate-write-all
     write-all-requires
