@@ -5,7 +5,6 @@ use mathlib.Core.Path.{_≡_, refl, sym, ap, ap₂, _∙_, subst}
 use mathlib.Core.Bool.{Bool, true, false, _&&_, false≢true}
 use mathlib.Core.List.{List}
 use native.Mathlib.Omega.{arith}
-use native.Mathlib.Decide.{decLe}
 use borrow.Author.Tests.{ne-eqb, le-leb, lt-leb, leb-true}
 use lib.Dec.{leb}
 use lib.ListN.{getD}
@@ -13,15 +12,15 @@ use Rattle.step.specs.Kept.{and-true as both}
 use Rattle.graph.specs.Below.{joined}
 use Rattle.table.specs.Check.{answer, tableRefusal}
 use Rattle.structure.specs.Structure.{Structure}
-use Rattle.lowered.specs.Lower.{plainNodes, plainWires, allUsers, allForkNodes, allForkWires, nodeTotal, wireTotal, startTotal, resultTotal}
+use Rattle.lowered.specs.Lower.{plainNodes, plainWires, nodeTotal, wireTotal, startTotal, resultTotal}
 use Rattle.lowered.specs.Room.{hasRoom}
 use Rattle.written.specs.Plain.{Laid, Outs}
 use Rattle.written.specs.Numbers.{useCount}
 use Rattle.forking.specs.Tallied.{Below, tallied-below}
 use Rattle.forking.specs.Forked.{Freed}
 use Rattle.forking.specs.Written.{rowInputs, rowOuts, Scratch, usesOf, joined-long}
-use Rattle.measuring.specs.Passed.{and-false, and-true, number-is}
-use Rattle.measuring.specs.Counts.{Counts, counts, withForks, countsOf, countAnswer}
+use Rattle.measuring.specs.Passed.{and-true, number-is}
+use Rattle.measuring.specs.Counts.{Counts, counts, withForks, countsOf, countAnswer, no-room}
 use Rattle.measuring.specs.Ready.{starts-few, results-few, scratch-of, uses-of, wires-added, wire-total-of, node-total-of, Ready, Measured}
 
 -- ---- the limits
@@ -33,15 +32,6 @@ pub in-nodes : (n w : ℕ) → n ≤ 4096 → leb w 8192 ≡ leb n 4096 && leb w
 in-nodes n w h = rw (le-leb n 4096 h)
 
 module _ (t : List ℕ) where
-  no-room : withForks t ≡ false → hasRoom t ≡ false
-  unfolding withForks hasRoom nodeTotal wireTotal
-  no-room h = go (decLe (plainNodes t) 4096) (decLe (plainWires t) 8192)
-    where
-      go : Dec (plainNodes t ≤ 4096) → Dec (plainWires t ≤ 8192) → hasRoom t ≡ false
-      go (no a) d = rw (lt-leb (plainNodes t + allForkNodes (allUsers t)) 4096 (omega arith))
-      go (yes a) (no b) = rw (lt-leb (plainWires t + allForkWires (allUsers t)) 8192 (omega arith)) (and-false (leb (plainNodes t + allForkNodes (allUsers t)) 4096))
-      go (yes a) (yes b) = absurd (false≢true (sym h ∙ (rw (le-leb (plainNodes t) 4096 a, le-leb (plainWires t) 8192 b))))
-
   room : Structure t → leb (nodeTotal t) 4096 && leb (wireTotal t) 8192 ≡ hasRoom t
   unfolding hasRoom
   room S = rw (le-leb (startTotal t) 512 (starts-few t S), le-leb (resultTotal t) 512 (results-few t S)) (ap (λ (b : Bool). leb (nodeTotal t) 4096 && b) (sym (and-true (leb (wireTotal t) 8192))))
