@@ -737,7 +737,31 @@ def name_of(node):
     return f'{name} {("+ - *".split() + conditions)[node.code]}' if node.kind == OP else name
 
 
-def tracing(g, words, allowance):
+def carried(what, row, copied):
+    """What a wire carries."""
+    loop, arg, copy = f' of the FOR at row {row}', f' of the ARG at row {row}', f'copy of row {copied} in the loop of the FOR at row {row}'
+    return {0: f'row {row}', 1: f'row {row}', 2: "STREAM's index" + loop, 3: 'raw condition' + loop, 4: 'index' + loop, 5: 'gated condition' + loop, 6: 'guard' + loop,
+            7: 'true leg of the ' + copy, 8: 'false leg of the ' + copy, 9: copy, 10: "CARRY's word" + arg, 11: 'word' + arg, 12: 'exit word' + arg}[what]
+
+
+def role(what, row, copied):
+    """What a node is for, behind its kind."""
+    if what >= 16: return (' of ' if what % 16 < 2 else ' of the ') + carried(what % 16, row, copied)
+    if what in (4, 5): return ' of the ' + carried(9, row, copied)
+    return {0: f' of row {row}', 3: f', the guard of the FOR at row {row}'}.get(what, f' of the {"FOR" if what < 3 else "ARG"} at row {row}')
+
+
+def node_told(i, node, names):
+    """A node with its kind and, where there are names, what it is for."""
+    return f'node {i}, {name_of(node)}' + (role(*names[3 * i:3 * i + 3]) if names else '')
+
+
+def wire_told(x, names):
+    """Behind a wire's number or token, where there are names, what it carries."""
+    return f' ({carried(*names[3 * x:3 * x + 3])})' if names else ''
+
+
+def tracing(g, words, allowance, names=(), wire_names=()):
     """The lines of a traced run by sweeps, and the state it ends in."""
     graph = Graph(g)
     nodes, state = graph.nodes(), State(graph, words)
@@ -747,23 +771,30 @@ def tracing(g, words, allowance):
         for i, node in enumerate(nodes):
             done = ready(node, state, i)
             if done is None or len(lines) == allowance: continue
-            took = [f' {node.ins[k]}={state.tokens[node.ins[k]]}' for k in done[0]]
-            gave = [f' {node.first + k}={word}' for k, word in sorted(done[1].items())]
+            took = [f' {node.ins[k]}={state.tokens[node.ins[k]]}{wire_told(node.ins[k], wire_names)}' for k in done[0]]
+            gave = [f' {node.first + k}={word}{wire_told(node.first + k, wire_names)}' for k, word in sorted(done[1].items())]
             perform(node, state, i, done)
-            lines.append(f'{len(lines) + 1}: node {i}, {name_of(node)}, took{"".join(took) or " nothing"} gave{"".join(gave) or " nothing"}')
+            lines.append(f'{len(lines) + 1}: {node_told(i, node, names)}, took{"".join(took) or " nothing"} gave{"".join(gave) or " nothing"}')
     return lines, state.words()
 
 
-def rehearsed(g, words, allowance):
+def rehearsed(g, words, allowance, names=(), wire_names=()):
     """What people are told of a run by sweeps."""
     no, end, firings, node, s = run(allowance, g, words, [])
     graph = Graph(g)
-    tokens = State(graph, s).tokens
-    name = ['COMPLETE', 'ZERO STEP', 'STRANDED', 'SPENT'][end]
-    stalled = graph.nodes()[node] if end == 1 else None
-    out = [f'{name} after {firings} firings' + (f' at node {node}, {name_of(stalled)}' if stalled else '') + f', {g[0]} nodes, {g[1]} wires']
-    if stalled: out.append(f'its step is the word 0 on wire {stalled.ins[1]}')
-    return out + [f'result {k}: {"none" if tokens[x] is None else tokens[x]}' for k, x in enumerate(graph.results)]
+    nodes, state = graph.nodes(), State(graph, s)
+    stalled = end == 1
+    out = [f'{["COMPLETE", "ZERO STEP", "STRANDED", "SPENT"][end]} after {firings} firings' + (f' at {node_told(node, nodes[node], names)}' if stalled else '')
+           + f', {g[0]} nodes, {g[1]} wires']
+    if stalled: out.append(f'its step is the word 0 on wire {nodes[node].ins[1]}{wire_told(nodes[node].ins[1], wire_names)}')
+    if end == 3:
+        standing = sum(t is not None for t in state.tokens)
+        out.append(f'the allowance is spent and the results are not final; tokens on wires: {standing}; try a larger --allowance')
+        for i, (node, (phase, index, step, bound)) in enumerate(zip(nodes, state.records)):
+            if node.kind == STREAM and phase == 1:
+                test = '< <= > >= !='.split()[node.code % 5]
+                out.append(f'open loop: {node_told(i, node, names)}: index {index}, step {step}, bound {bound}, goes on while index {test} bound')
+    return out + [f'result {k}: {"none" if state.tokens[x] is None else state.tokens[x]}' for k, x in enumerate(graph.results)]
 
 
 def wire_name(what, row, of):
@@ -828,9 +859,9 @@ if __name__ == '__main__':
     elif what == ['draw']:
         print('\n'.join(drawing(*[numbers(x) for x in sys.stdin.read().split(';')])))
     elif what == ['trace']:
-        g, inputs, s = [numbers(x) for x in sys.stdin.read().split(';')]
+        g, inputs, s, *names = [numbers(x) for x in sys.stdin.read().split(';')]
         loaded = load(len(s), g, inputs)[1]
-        print('\n'.join(rehearsed(g, loaded, 1000) + tracing(g, loaded, 1000)[0] + rehearsed(g, loaded, 1000)))
+        print('\n'.join(rehearsed(g, loaded, 1000, *names) + tracing(g, loaded, 1000, *names)[0] + rehearsed(g, loaded, 1000, *names) + rehearsed(g, loaded, 30, *names)))
     elif what == ['lower']:
         print('\n'.join(drawing(lowered(table_words(sys.stdin.read()))[0], []))[:].partition('digraph')[0], end='')
     elif what == ['names']:

@@ -1,23 +1,52 @@
-// Rehearses a graph by sweeps, with an allowance of 1,000, first as it is and then with its firings told. Standard input gives its words, the input words and the
-// words of a state, semicolons between.
+// Rehearses the sum graph by sweeps, with an allowance of 1,000, first as it is and then with its firings told, and with an allowance of 30. Standard input gives its words,
+// the input words, the words of a state, and the names of its nodes and wires, semicolons between.
 use libc::STDOUT_FILENO;
 use traced::How;
 
-fn rehearse(graph: &[u32], inputs: &[u32], state: &mut [u32], trace: bool) {
+fn rehearse(
+    graph: &[u32],
+    nodes: &[u32],
+    wires: &[u32],
+    inputs: &[u32],
+    state: &mut [u32],
+    allowance: u64,
+    trace: bool,
+) {
     let how = How {
         trace,
         to: STDOUT_FILENO,
         err: STDOUT_FILENO,
     };
     let mut out = io::large_buffer();
-    let told = rehearsal::run_graph(graph, &[], &[], inputs, state, &[], 1000, how, &mut out);
+    let told = rehearsal::run_graph(
+        graph,
+        nodes,
+        wires,
+        inputs,
+        state,
+        &[],
+        allowance,
+        how,
+        &mut out,
+    );
     let n = told.count;
     io::write_all(STDOUT_FILENO, &out[..n]);
 }
 
-fn rehearse_twice(graph: &[u32], inputs: &[u32], state: &mut [u32]) {
-    rehearse(graph, inputs, state, false);
-    rehearse(graph, inputs, state, true);
+fn rehearse_thrice(graph: &[u32], nodes: &[u32], wires: &[u32], inputs: &[u32], state: &mut [u32]) {
+    rehearse(graph, nodes, wires, inputs, state, 1000, false);
+    rehearse(graph, nodes, wires, inputs, state, 1000, true);
+    rehearse(graph, nodes, wires, inputs, state, 30, false);
+}
+
+fn rehearse_named(text: &[u8], graph: &[u32], inputs: &[u32], state: &mut [u32]) {
+    let mut nodes = [0u32; 4096];
+    let mut wires = [0u32; 4096];
+    let n = text::words(text::part(text, 3), &mut nodes);
+    let w = text::words(text::part(text, 4), &mut wires);
+    let i = n.count;
+    let k = w.count;
+    rehearse_thrice(graph, &nodes[..i], &wires[..k], inputs, state);
 }
 
 fn rehearse_text(text: &[u8]) {
@@ -30,7 +59,7 @@ fn rehearse_text(text: &[u8]) {
     let n = g.count;
     let m = i.count;
     let k = s.count;
-    rehearse_twice(&graph[..n], &inputs[..m], &mut state[..k]);
+    rehearse_named(text, &graph[..n], &inputs[..m], &mut state[..k]);
 }
 
 fn main() {

@@ -39,7 +39,7 @@ fn turn_of(graph: &[u32], state: &mut [u32], i: usize, left: u64) -> u64
 }
 
 // The caller's list once.
-fn follow_order(graph: &[u32], state: &mut [u32], order: &[u32], allowance: u64) -> u64
+pub fn follow_order(graph: &[u32], state: &mut [u32], order: &[u32], allowance: u64) -> u64
     requires { ⌜ Runs (now graph) (length (now state)) × Below (now graph) (now order) ⌝ }
     ensures followed { λ r. ⌜ (at (now (state .exit)) r ≡ follow (netOf (now (graph .entry))) (now (order .entry)) (at (now (state .entry)) allowance)) × (r ≤ allowance) ⌝ }
 {
@@ -53,7 +53,7 @@ fn follow_order(graph: &[u32], state: &mut [u32], order: &[u32], allowance: u64)
 }
 
 // One sweep from node 0 up.
-fn sweep_once(graph: &[u32], state: &mut [u32], allowance: u64) -> u64
+pub fn sweep_once(graph: &[u32], state: &mut [u32], allowance: u64) -> u64
     requires { ⌜ Runs (now graph) (length (now state)) ⌝ }
     ensures swept { λ r. ⌜ (at (now (state .exit)) r ≡ sweep (netOf (now (graph .entry))) (nodeCount (now (graph .entry))) (at (now (state .entry)) allowance)) × (r ≤ allowance) ⌝ }
 {

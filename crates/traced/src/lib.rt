@@ -16,7 +16,7 @@ const ABSENT: u32 = 4294967295;
 const ORDER: u32 = 18;
 
 // After so many turns of nodes the firings so far are told: some seconds.
-const MANY: u64 = 200000000;
+const MANY: u64 = 100000000;
 
 // What is told of a run: each firing on `to`, or the firings so far on `err`.
 pub struct How {
@@ -211,8 +211,10 @@ fn tell(
     io::write_all(to, &out[..n]);
 }
 
-// Node i's turn, where something is left of the allowance. The firing is told with its number.
-fn told_turn(
+// The run told firing by firing.
+
+// Node i's turn: what is left of the allowance. The firing is told with its number.
+fn turn_of(
     graph: &[u32],
     nodes: &[u32],
     wires: &[u32],
@@ -222,9 +224,12 @@ fn told_turn(
     allowance: u64,
     to: i32,
 ) -> u64
-    requires { ⌜ Runs (now graph) (length (now state)) × (i < nodeCount (now graph)) × (left ≤ allowance) × (0 < left) ⌝ }
+    requires { ⌜ Runs (now graph) (length (now state)) × (i < nodeCount (now graph)) × (left ≤ allowance) ⌝ }
     ensures turn { λ r. ⌜ (at (now (state .exit)) r ≡ turn (netOf (now (graph .entry))) i (at (now (state .entry)) left)) × (r ≤ left) ⌝ }
 {
+    if left == 0 {
+        return left;
+    }
     let before = tokens_of(graph, state, i);
     if firing::fire_node(graph, state, i) {
         let after = tokens_of(graph, state, i);
@@ -243,41 +248,14 @@ fn told_turn(
     left
 }
 
-// Node i's turn: what is left of the allowance.
-fn turn_of(
-    graph: &[u32],
-    nodes: &[u32],
-    wires: &[u32],
-    state: &mut [u32],
-    i: usize,
-    left: u64,
-    allowance: u64,
-    how: How,
-) -> u64
-    requires { ⌜ Runs (now graph) (length (now state)) × (i < nodeCount (now graph)) × (left ≤ allowance) ⌝ }
-    ensures turn { λ r. ⌜ (at (now (state .exit)) r ≡ turn (netOf (now (graph .entry))) i (at (now (state .entry)) left)) × (r ≤ left) ⌝ }
-{
-    if left == 0 {
-        return left;
-    }
-    if how.trace {
-        return told_turn(graph, nodes, wires, state, i, left, allowance, how.to);
-    }
-    if firing::fire_node(graph, state, i) {
-        return left - 1;
-    }
-    left
-}
-
-// The caller's list once.
-fn follow_order(
+fn follow_told(
     graph: &[u32],
     nodes: &[u32],
     wires: &[u32],
     state: &mut [u32],
     order: &[u32],
     allowance: u64,
-    how: How,
+    to: i32,
 ) -> u64
     requires { ⌜ Runs (now graph) (length (now state)) × Below (now graph) (now order) ⌝ }
     ensures followed { λ r. ⌜ (at (now (state .exit)) r ≡ follow (netOf (now (graph .entry))) (now (order .entry)) (at (now (state .entry)) allowance)) × (r ≤ allowance) ⌝ }
@@ -293,11 +271,54 @@ fn follow_order(
             graph::wide(order[k]),
             left,
             allowance,
-            how,
+            to,
         );
         k += 1;
     }
     left
+}
+
+fn sweep_told(
+    graph: &[u32],
+    nodes: &[u32],
+    wires: &[u32],
+    state: &mut [u32],
+    given: u64,
+    allowance: u64,
+    to: i32,
+) -> u64
+    requires { ⌜ Runs (now graph) (length (now state)) × (given ≤ allowance) ⌝ }
+    ensures swept { λ r. ⌜ (at (now (state .exit)) r ≡ sweep (netOf (now (graph .entry))) (nodeCount (now (graph .entry))) (at (now (state .entry)) given)) × (r ≤ given) ⌝ }
+{
+    let count = graph::wide(graph[0]);
+    let mut left = given;
+    let mut i: usize = 0;
+    while i < count {
+        left = turn_of(graph, nodes, wires, state, i, left, allowance, to);
+        i += 1;
+    }
+    left
+}
+
+// The run, told or not. What is not traced goes through the run's own turns, so that it takes no longer.
+
+// The caller's list once.
+fn follow_order(
+    graph: &[u32],
+    nodes: &[u32],
+    wires: &[u32],
+    state: &mut [u32],
+    order: &[u32],
+    allowance: u64,
+    how: How,
+) -> u64
+    requires { ⌜ Runs (now graph) (length (now state)) × Below (now graph) (now order) ⌝ }
+    ensures followed { λ r. ⌜ (at (now (state .exit)) r ≡ follow (netOf (now (graph .entry))) (now (order .entry)) (at (now (state .entry)) allowance)) × (r ≤ allowance) ⌝ }
+{
+    if how.trace {
+        return follow_told(graph, nodes, wires, state, order, allowance, how.to);
+    }
+    run::follow_order(graph, state, order, allowance)
 }
 
 // One sweep from node 0 up.
@@ -313,14 +334,10 @@ fn sweep_once(
     requires { ⌜ Runs (now graph) (length (now state)) × (given ≤ allowance) ⌝ }
     ensures swept { λ r. ⌜ (at (now (state .exit)) r ≡ sweep (netOf (now (graph .entry))) (nodeCount (now (graph .entry))) (at (now (state .entry)) given)) × (r ≤ given) ⌝ }
 {
-    let count = graph::wide(graph[0]);
-    let mut left = given;
-    let mut i: usize = 0;
-    while i < count {
-        left = turn_of(graph, nodes, wires, state, i, left, allowance, how);
-        i += 1;
+    if how.trace {
+        return sweep_told(graph, nodes, wires, state, given, allowance, how.to);
     }
-    left
+    run::sweep_once(graph, state, given)
 }
 
 fn tell_firings(err: i32, firings: u64) {

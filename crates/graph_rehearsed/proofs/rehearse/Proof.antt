@@ -15,12 +15,6 @@ slice-aggregate-run-graph c = search needs
 slice-aggregate-run-graph-2 : tie.Need-slice-aggregate-run-graph-2
 slice-aggregate-run-graph-2 c = search needs
 
-slice-aggregate-run-graph-3 : tie.Need-slice-aggregate-run-graph-3
-slice-aggregate-run-graph-3 c = search needs
-
-slice-aggregate-run-graph-4 : tie.Need-slice-aggregate-run-graph-4
-slice-aggregate-run-graph-4 c = search needs
-
 run-graph-requires : tie.Need-run-graph-requires
 run-graph-requires c κs = search needs
 
@@ -46,8 +40,6 @@ rehearse-spec =
     large-buffer-requires
     slice-aggregate-run-graph
     slice-aggregate-run-graph-2
-    slice-aggregate-run-graph-3
-    slice-aggregate-run-graph-4
     run-graph-requires
     array-share-prefix-out
     slice-aggregate-write-all

@@ -36,23 +36,23 @@ words-requires-3 c κs = search needs
 array-share-prefix-graph : tie.Need-array-share-prefix-graph
 array-share-prefix-graph c = search needs
 
-slice-aggregate-rehearse-twice : tie.Need-slice-aggregate-rehearse-twice
-slice-aggregate-rehearse-twice c = sym (length-take-le _ _ (omega arith))
+slice-aggregate-rehearse-named : tie.Need-slice-aggregate-rehearse-named
+slice-aggregate-rehearse-named c = sym (length-take-le _ _ (omega arith))
 
 array-share-prefix-inputs : tie.Need-array-share-prefix-inputs
 array-share-prefix-inputs c = search needs
 
-slice-aggregate-rehearse-twice-2 : tie.Need-slice-aggregate-rehearse-twice-2
-slice-aggregate-rehearse-twice-2 c = sym (length-take-le _ _ (omega arith))
+slice-aggregate-rehearse-named-2 : tie.Need-slice-aggregate-rehearse-named-2
+slice-aggregate-rehearse-named-2 c = sym (length-take-le _ _ (omega arith))
 
 array-borrow-prefix-state : tie.Need-array-borrow-prefix-state
 array-borrow-prefix-state c = search needs
 
-slice-aggregate-rehearse-twice-3 : tie.Need-slice-aggregate-rehearse-twice-3
-slice-aggregate-rehearse-twice-3 c = sym (length-take-le _ _ (omega arith))
+slice-aggregate-rehearse-named-3 : tie.Need-slice-aggregate-rehearse-named-3
+slice-aggregate-rehearse-named-3 c = sym (length-take-le _ _ (omega arith))
 
-rehearse-twice-requires : tie.Need-rehearse-twice-requires
-rehearse-twice-requires c κs = search needs
+rehearse-named-requires : tie.Need-rehearse-named-requires
+rehearse-named-requires c κs = search needs
 
 returns : tie.Need-returns
 returns c = search needs
@@ -71,10 +71,10 @@ rehearse-text-spec =
     slice-aggregate-words-3
     words-requires-3
     array-share-prefix-graph
-    slice-aggregate-rehearse-twice
+    slice-aggregate-rehearse-named
     array-share-prefix-inputs
-    slice-aggregate-rehearse-twice-2
+    slice-aggregate-rehearse-named-2
     array-borrow-prefix-state
-    slice-aggregate-rehearse-twice-3
-    rehearse-twice-requires
+    slice-aggregate-rehearse-named-3
+    rehearse-named-requires
     returns)

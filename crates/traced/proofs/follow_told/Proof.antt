@@ -1,4 +1,4 @@
--- `traced::follow_order` meets its contract: the caller's list once, by the run's rule. Assumes nothing.
+-- `traced::follow_told` meets its contract: the caller's list once, told, by the run's rule. Assumes nothing.
 use Rattle.run.proofs.Turns.{follow-go, follow-end}
 use Rattle.run.specs.Entry.{at}
 use Rattle.state.specs.Run.{follow}
@@ -8,14 +8,14 @@ use borrow.Author.Needs.{needs}
 use native.Mathlib.Omega.{arith}
 use mathlib.Core.Path.{_≡_, refl, sym, _∙_}
 use Prim.Native.Nat.{_-_, _≤_}
-use Rattle.traced.proofs.follow_order.Statement.{statement}
-use Rattle.traced.proofs.follow_order.Tie as tie
+use Rattle.traced.proofs.follow_told.Statement.{statement}
+use Rattle.traced.proofs.follow_told.Tie as tie
 
 abbrev Inv-loop : tie.InvT-loop
-Inv-loop graph nodes wires state₀ order allowance how left₀ k₀ state left k = (k ≤ length order) × (length state ≡ length state₀) × (left ≤ allowance) × (follow (netOf graph) (drop k order) (at state left) ≡ follow (netOf graph) order (at state₀ allowance))
+Inv-loop graph nodes wires state₀ order allowance to left₀ k₀ state left k = (k ≤ length order) × (length state ≡ length state₀) × (left ≤ allowance) × (follow (netOf graph) (drop k order) (at state left) ≡ follow (netOf graph) order (at state₀ allowance))
 
 abbrev μ-loop : tie.MeasureT-loop
-μ-loop graph nodes wires state₀ order allowance how left₀ k₀ state left k = length order - k
+μ-loop graph nodes wires state₀ order allowance to left₀ k₀ state left k = length order - k
 
 loop-holds : tie.Need-loop-holds Inv-loop μ-loop
 loop-holds c = (omega arith, refl, omega arith, refl)
@@ -47,8 +47,8 @@ same-length c = c .before .loop .inv .1
 returns : tie.Need-returns Inv-loop μ-loop
 returns c = (sym (follow-end _ _ _ _ (c .loop-test .left)) ∙ c .before .loop .inv .3, omega arith)
 
-pub follow-order-spec : {M : Type 1} → statement M
-follow-order-spec =
+pub follow-told-spec : {M : Type 1} → statement M
+follow-told-spec =
     tie.close
     (tie.spec
     Inv-loop

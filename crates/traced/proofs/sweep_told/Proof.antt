@@ -1,4 +1,4 @@
--- `traced::sweep_once` meets its contract: one sweep, by the run's rule. Assumes nothing.
+-- `traced::sweep_told` meets its contract: one sweep, told, by the run's rule. Assumes nothing.
 use Rattle.run.proofs.Turns.{sweep-go, sweep-end}
 use Rattle.run.specs.Entry.{at}
 use Rattle.state.specs.Run.{sweepFrom, sweep}
@@ -11,14 +11,14 @@ use native.Mathlib.Nat.{sub-zero}
 use native.Mathlib.Omega.{arith}
 use mathlib.Core.Path.{_≡_, refl, sym, _∙_}
 use Prim.Native.Nat.{_-_, _≤_}
-use Rattle.traced.proofs.sweep_once.Statement.{statement}
-use Rattle.traced.proofs.sweep_once.Tie as tie
+use Rattle.traced.proofs.sweep_told.Statement.{statement}
+use Rattle.traced.proofs.sweep_told.Tie as tie
 
 abbrev Inv-loop : tie.InvT-loop
-Inv-loop graph nodes wires state₀ given allowance how count left₀ i₀ state left i = (i ≤ count) × (count ≡ nodeCount graph) × (length state ≡ length state₀) × (left ≤ given) × (sweepFrom (netOf graph) (count - i) i (at state left) ≡ sweep (netOf graph) (nodeCount graph) (at state₀ given))
+Inv-loop graph nodes wires state₀ given allowance to count left₀ i₀ state left i = (i ≤ count) × (count ≡ nodeCount graph) × (length state ≡ length state₀) × (left ≤ given) × (sweepFrom (netOf graph) (count - i) i (at state left) ≡ sweep (netOf graph) (nodeCount graph) (at state₀ given))
 
 abbrev μ-loop : tie.MeasureT-loop
-μ-loop graph nodes wires state₀ given allowance how count left₀ i₀ state left i = count - i
+μ-loop graph nodes wires state₀ given allowance to count left₀ i₀ state left i = count - i
 
 shared-slice-read-wide : tie.Need-shared-slice-read-wide Inv-loop μ-loop
 shared-slice-read-wide c = let a = accepted _ (c .before .before .before .before .before .pre .0 .graph) .shape in omega arith
@@ -47,8 +47,8 @@ same-length c = c .before .loop .inv .2
 returns : tie.Need-returns Inv-loop μ-loop
 returns c = (sym (sweep-end _ _ _ _ (c .loop-test .left)) ∙ c .before .loop .inv .4, omega arith)
 
-pub sweep-once-spec : {M : Type 1} → statement M
-sweep-once-spec =
+pub sweep-told-spec : {M : Type 1} → statement M
+sweep-told-spec =
     tie.close
     (tie.spec
     Inv-loop
