@@ -331,14 +331,28 @@ fn on_argument(job: Job, inputs: &[u32], line: &[u8]) -> u32 {
 
 // Arguments.
 
+// A command on a table alone: a second argument is no wrong input, but one too many.
+fn alone(asked: Asked) -> Asked
+    ensures { λ r. ⌜ r .inputs ≤ asked .inputs ⌝ }
+{
+    if asked.problem == arguments::WORD {
+        let mut more = asked;
+        more.problem = arguments::ALONE;
+        more.at = 0;
+        return more;
+    }
+    if asked.run {
+        return arguments::wrong(asked, arguments::ALONE, 0);
+    }
+    asked
+}
+
 // What a command does not take.
 fn fitting(command: u32, asked: Asked) -> Asked
     ensures { λ r. ⌜ r .inputs ≤ asked .inputs ⌝ }
 {
     if command < RUN {
-        if asked.run {
-            return arguments::wrong(asked, arguments::ALONE, 0);
-        }
+        return alone(asked);
     }
     if command == DRAW {
         if asked.trace {

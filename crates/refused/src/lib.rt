@@ -63,9 +63,9 @@ fn put_length(out: &mut [u8], at: usize, table: &[u32], clause: Clause) -> usize
 {
     let rows = size_of(table);
     let rest = (table.len() % 6) as u32;
+    let values = [6 * rows + rest, rows, rest, 0];
     let sentences =
-        b";found: ~1 word&1 in whole rows, ~0 row&0, and $2 word&2 more;the file has no words;found: ~0 rows";
-    let values = [rows, 6 * rows, rest, 0];
+        b";found: ~0 word&0, ~1 row&1 and $2 word&2 more;found: no words;found: ~0 words, ~1 rows";
     phrases::put(
         out,
         at,
