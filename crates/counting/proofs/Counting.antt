@@ -1,19 +1,18 @@
 -- What the functions count, from the rows that they have seen.
 --
---   carried-more, carried-noted   values carried into a loop, one more; loops noted, one more
+--   all-carried, one-noted        the values carried into a loop are counted; one more loop is noted
 --   unnamed-is, named-is          a value leads to no operand exactly if no row names it
 --   plain-few                     there are not so many nodes and wires that a sum would leave a word
 --   counted-all, count-refused    the answer
 --
 -- Assumes nothing.
 use Prim.Native.Nat.{ℕ, zero, suc, _+_, _-_, _*_, _<_, _≤_}
-use mathlib.Core.Path.{_≡_, refl, sym, ap, ap₂, _∙_, subst}
+use mathlib.Core.Path.{_≡_, refl, sym, ap, _∙_, subst}
 use mathlib.Core.Logic.{_≢_, _⊎_, inl, inr}
 use mathlib.Core.Bool.{Bool, true, false, cond, not}
-use mathlib.Core.List.{List, [], _∷_, _++_}
+use mathlib.Core.List.{List, [], _∷_}
 use native.Mathlib.Omega.{arith}
 use native.Mathlib.Nat.{mul-suc}
-use native.Mathlib.Numerals.{add-one}
 use native.Mathlib.Decide.{ℕ-discrete}
 use borrow.Author.Tests.{ne-eqb}
 use lib.Dec.{eqb}
@@ -26,7 +25,7 @@ use Rattle.table.specs.Rows.{kindOf, size, operandCount}
 use Rattle.table.specs.Bodies.{operand, nextOf}
 use Rattle.table.specs.Check.{answer, tableRefusal}
 use Rattle.structure.specs.Structure.{Structure}
-use Rattle.lowered.specs.Gathered.{gathered, those, each}
+use Rattle.lowered.specs.Gathered.{gathered, each}
 use Rattle.lowered.specs.Roles.{Role, opNode, stream, gate, guard, carry, argSplit}
 use Rattle.lowered.specs.Sources.{carried, isOp, isFor, isArgRow}
 use Rattle.lowered.specs.Lower.{carriedInto, copy, rowRoles, roles, starts, outputsBy, roleOutputs, roleKind, wires, plainNodes, plainWires, nodeTotal, wireTotal, startTotal, resultTotal}
@@ -36,35 +35,15 @@ use Rattle.laid.specs.Bases.{length-pieces, starts-long}
 use Rattle.carrying.specs.Kept.{Passing, Pairs, Uses, Counted}
 use Rattle.measuring.specs.Passed.{structure-of, number-is}
 use Rattle.measuring.specs.Ready.{starts-few}
-use Rattle.counting.specs.Idle.{namedAny, named-from, named-by, rowUses, rowIdle, totals-by-rows, uses-of-for, uses-of-other, idle-of-start, idle-of-op, idle-of-for, idle-of-arg, idle-of-other}
-use Rattle.counting.specs.Answers.{Counts, counts, countAnswer}
+use Rattle.counting.specs.Idle.{length-those, namedAny, named-from, named-by, rowUses, rowIdle, totals-by-rows, uses-of-for, uses-of-other, idle-of-start, idle-of-op, idle-of-for, idle-of-arg, idle-of-other}
+use Rattle.counting.specs.Answers.{counts, countAnswer}
 
 -- ---- values carried into a loop
 
--- so many values below v are carried
-unfoldable pub carriedBelow : List ℕ → ℕ → ℕ → ℕ
-carriedBelow t L v = length (those (carried t L) v)
-
 module _ (t : List ℕ) (L : ℕ) where
-  pub none-carried : carriedBelow t L 0 ≡ 0
-  unfolding carriedBelow those
-  none-carried = refl
-
-  pub carried-more : (v : ℕ) {b : Bool} {c f : ℕ} → c ≡ carriedBelow t L v → b ≡ carried t L v → f ≡ flag b → c + f ≡ carriedBelow t L (v + 1)
-  unfolding carriedBelow those
-  carried-more v e d h =
-      let a = length-append (those (carried t L) v) (cond (carried t L v) (v ∷ []) []) in
-      let o = one (carried t L v) in
-      let g = h ∙ ap flag d in
-      rw (add-one v) (omega arith)
-    where
-      one : (b : Bool) → length (cond b (v ∷ []) []) ≡ flag b
-      one true = refl
-      one false = refl
-
-  pub all-carried : (n v : ℕ) → n ≡ size t → v ≡ n → carriedBelow t L v ≡ length (carriedInto t L)
-  unfolding carriedBelow carriedInto
-  all-carried n v e d = ap (λ (k : ℕ). length (those (carried t L) k)) (d ∙ e)
+  pub all-carried : (n v : ℕ) → n ≡ size t → v ≡ n → total (λ x. flag (carried t L x)) v ≡ length (carriedInto t L)
+  unfolding carriedInto
+  all-carried n v e d = ap (total (λ x. flag (carried t L x))) (d ∙ e) ∙ sym (length-those (carried t L) (size t))
 
   pub few-carried : size t ≤ 512 → length (carriedInto t L) ≤ 512
   unfolding carriedInto

@@ -8,13 +8,12 @@
 --
 -- Assumes nothing.
 use Prim.Native.Nat.{ℕ, zero, suc, _+_, _-_, _*_, _<_, _≤_}
-use mathlib.Core.Path.{_≡_, refl, sym, ap, ap₂, _∙_, subst}
+use mathlib.Core.Path.{_≡_, refl, sym, ap, _∙_, subst}
 use mathlib.Core.Logic.{_≢_, _⊎_, inl, inr}
 use mathlib.Core.Bool.{Bool, true, false, cond, not, false≢true}
-use mathlib.Core.List.{List, [], _∷_, _++_}
+use mathlib.Core.List.{List, [], _∷_}
 use mathlib.Core.Option.{Option, none, some}
 use native.Mathlib.Omega.{arith}
-use native.Mathlib.Nat.{mul-zero, mul-suc}
 use borrow.Author.Tests.{eq-eqb, ne-eqb, eqb-true, le-leb, lt-leb}
 use lib.Dec.{eqb}
 use lib.ListN.{length, getElem?, length-append}
@@ -22,21 +21,19 @@ use Rattle.word.specs.Words.{flag}
 use Rattle.step.specs.Kinds.{out0, out1}
 use Rattle.graph.specs.Below.{total, times}
 use Rattle.table.specs.Rows.{kindOf, size, operandCount}
-use Rattle.table.specs.Scan.{reads}
-use Rattle.table.specs.Bodies.{operand, argOf, nextOf}
+use Rattle.table.specs.Bodies.{operand, nextOf}
 use Rattle.structure.specs.Structure.{Structure}
 use Rattle.lowered.specs.Gathered.{gathered, those, some?, each}
 use Rattle.lowered.specs.Lists.{Among, has-elem, below-or-last}
 use Rattle.lowered.specs.Roles.{Role, opNode, stream, gate, guard, copySplit, copyInvariant, carry, argSplit, Wire, start, output, Use}
-use Rattle.lowered.specs.Sources.{names, carried, homeWire, isOp, isFor, isArgRow, source}
-use Rattle.lowered.specs.Lower.{carriedInto, copy, rowRoles, roles, isStart, startRows, starts, roleOutputs, wires, isOut, outRows, uses, users, forkNodes, forkWires, allForkNodes, allForkWires, usersEach, allUsers, plainNodes, plainWires, wireNumber, nodeTotal, wireTotal, resultTotal}
+use Rattle.lowered.specs.Sources.{names, carried, homeWire, isOp, source}
+use Rattle.lowered.specs.Lower.{carriedInto, rowRoles, roles, isStart, startRows, starts, roleOutputs, wires, isOut, outRows, uses, users, forkNodes, forkWires, allForkNodes, allForkWires, usersEach, allUsers, plainNodes, plainWires, wireNumber, nodeTotal, wireTotal}
 use Rattle.laid.specs.Lists.{those-from, those-has, position-below}
 use Rattle.lowered.specs.Roles.{sameWire}
 use Rattle.laid.specs.Indexed.{sumOf, sum-append, total-along, total-same, each-append}
 use Rattle.laid.specs.Legs.{standing}
-use Rattle.laid.specs.Listed.{for-roles, arg-roles, op-roles}
 use Rattle.laid.specs.Bases.{length-pieces, no-roles, for-outputs, arg-outputs, op-outputs}
-use Rattle.laid.specs.Made.{op-kind, home-of-start, home-of-op, home-of-for, home-of-arg, home-of-next}
+use Rattle.laid.specs.Made.{home-of-start, home-of-op, home-of-for, home-of-arg, home-of-next}
 use Rattle.laid.specs.Reached.{some-from, some-has, in-table}
 use Rattle.laid.specs.Taken.{made}
 use Rattle.laid.specs.Counts.{sourceNumber, source-number, useWires, users-are-counted, fork-nodes-by-number, fork-wires-by-number}
@@ -115,7 +112,7 @@ sum-those h g test (suc n) =
     let b = sum-append h (each g (those test n)) (each g (cond (test n) (n ∷ []) [])) in
     omega arith
 
-length-those : (test : ℕ → Bool) (n : ℕ) → length (those test n) ≡ total (λ r. flag (test r)) n
+pub length-those : (test : ℕ → Bool) (n : ℕ) → length (those test n) ≡ total (λ r. flag (test r)) n
 unfolding those total
 length-those test zero = refl
 length-those test (suc n) =

@@ -11,9 +11,9 @@ use mathlib.Core.Path.{_≡_, refl, sym, ap, _∙_, subst}
 use mathlib.Core.Logic.{_≢_, _⊎_, inl, inr}
 use mathlib.Core.Bool.{Bool, true, false, cond}
 use mathlib.Core.List.{List}
-use mathlib.Core.Option.{Option, none, some}
+use mathlib.Core.Option.{Option, some}
 use native.Mathlib.Omega.{arith}
-use native.Mathlib.Decide.{ℕ-discrete, decLe}
+use native.Mathlib.Decide.{ℕ-discrete}
 use borrow.Author.Tests.{eq-eqb, ne-eqb, eqb-true}
 use lib.Dec.{eqb}
 use Rattle.step.specs.Kinds.{Input, in0, in1, in2, Output, out0, out1}
@@ -24,7 +24,7 @@ use Rattle.structure.specs.Spans.{Encloses}
 use Rattle.structure.specs.Structure.{Structure}
 use Rattle.lowered.specs.Lists.{Among, none-some}
 use Rattle.lowered.specs.Roles.{Role, opNode, stream, gate, guard, copySplit, copyInvariant, carry, argSplit, Wire, start, output, Use, into, result}
-use Rattle.lowered.specs.Sources.{carried, homeWire, valueWire, Feed, value, inner, nothing, named, isOp, isFor, isArgRow, roleFeed, wireOf, source}
+use Rattle.lowered.specs.Sources.{carried, homeWire, valueWire, value, nothing, named, isOp, isFor, isArgRow, roleFeed, wireOf, source}
 use Rattle.lowered.specs.Lower.{isOut, users}
 use Rattle.laid.specs.Listed.{Real, and-true, and-both}
 use Rattle.laid.specs.Made.{op-kind, node-feed, result-feed, home-of-start, home-of-op, home-of-for, home-of-arg, home-of-next}
