@@ -54,9 +54,9 @@ fn put_refused(out: &mut [u8], path: &[u8], table: &[u32], number: u32) -> usize
     ensures { λ r. ⌜ r ≤ length (now (out .entry)) ⌝ }
 {
     if number == ROOM {
-        let counts = measuring::count_table(table);
+        let counts = counting::count_table(table);
         let four = [counts.nodes, counts.wires, counts.starts, counts.results];
-        return refused::put_room(out, path, four, counts.exact);
+        return refused::put_room(out, path, four);
     }
     let clause = table::tell_rows(table);
     refused::put_refusal(out, path, table, clause)

@@ -5,22 +5,21 @@ use mathlib.Core.Path.{_≡_, refl, sym, ap, ap₂, _∙_, subst}
 use mathlib.Core.Bool.{Bool, true, false, _&&_, false≢true}
 use mathlib.Core.List.{List}
 use native.Mathlib.Omega.{arith}
-use borrow.Author.Tests.{ne-eqb, le-leb, lt-leb, leb-true}
+use native.Mathlib.Decide.{decLe}
+use borrow.Author.Tests.{le-leb, lt-leb, leb-true}
 use lib.Dec.{leb}
 use lib.ListN.{getD}
 use Rattle.step.specs.Kept.{and-true as both}
 use Rattle.graph.specs.Below.{joined}
-use Rattle.table.specs.Check.{answer, tableRefusal}
 use Rattle.structure.specs.Structure.{Structure}
-use Rattle.lowered.specs.Lower.{plainNodes, plainWires, nodeTotal, wireTotal, startTotal, resultTotal}
+use Rattle.lowered.specs.Lower.{plainNodes, plainWires, allUsers, allForkNodes, allForkWires, nodeTotal, wireTotal, startTotal, resultTotal}
 use Rattle.lowered.specs.Room.{hasRoom}
 use Rattle.written.specs.Plain.{Laid, Outs}
 use Rattle.written.specs.Numbers.{useCount}
 use Rattle.forking.specs.Tallied.{Below, tallied-below}
 use Rattle.forking.specs.Forked.{Freed}
 use Rattle.forking.specs.Written.{rowInputs, rowOuts, Scratch, usesOf, joined-long}
-use Rattle.measuring.specs.Passed.{and-true, number-is}
-use Rattle.measuring.specs.Counts.{Counts, counts, withForks, countsOf, countAnswer, no-room}
+use Rattle.measuring.specs.Passed.{and-false, and-true}
 use Rattle.measuring.specs.Ready.{starts-few, results-few, scratch-of, uses-of, wires-added, wire-total-of, node-total-of, Ready, Measured}
 
 -- ---- the limits
@@ -31,23 +30,35 @@ over-nodes n w h = rw (lt-leb n 4096 h)
 pub in-nodes : (n w : ℕ) → n ≤ 4096 → leb w 8192 ≡ leb n 4096 && leb w 8192
 in-nodes n w h = rw (le-leb n 4096 h)
 
+-- in the limits before forks
+unfoldable withForks : List ℕ → Bool
+withForks t = leb (plainNodes t) 4096 && leb (plainWires t) 8192
+
 module _ (t : List ℕ) where
+  -- forks only add
+  no-room : withForks t ≡ false → hasRoom t ≡ false
+  unfolding withForks hasRoom nodeTotal wireTotal
+  no-room h = go (decLe (plainNodes t) 4096) (decLe (plainWires t) 8192)
+    where
+      go : Dec (plainNodes t ≤ 4096) → Dec (plainWires t ≤ 8192) → hasRoom t ≡ false
+      go (no a) d = rw (lt-leb (plainNodes t + allForkNodes (allUsers t)) 4096 (omega arith))
+      go (yes a) (no b) = rw (lt-leb (plainWires t + allForkWires (allUsers t)) 8192 (omega arith)) (and-false (leb (plainNodes t + allForkNodes (allUsers t)) 4096))
+      go (yes a) (yes b) = absurd (false≢true (sym h ∙ (rw (le-leb (plainNodes t) 4096 a, le-leb (plainWires t) 8192 b))))
+
   room : Structure t → leb (nodeTotal t) 4096 && leb (wireTotal t) 8192 ≡ hasRoom t
   unfolding hasRoom
   room S = rw (le-leb (startTotal t) 512 (starts-few t S), le-leb (resultTotal t) 512 (results-few t S)) (ap (λ (b : Bool). leb (nodeTotal t) 4096 && b) (sym (and-true (leb (wireTotal t) 8192))))
 
 module _ (t : List ℕ) {n w s r : ℕ} (en : n ≡ plainNodes t) (ew : w ≡ plainWires t) (es : s ≡ startTotal t) (er : r ≡ resultTotal t) {b : Bool}
     (eb : b ≡ leb n 4096 && leb w 8192) where
-  pub with-forks : withForks t ≡ b
+  with-forks : withForks t ≡ b
   unfolding withForks
   with-forks = sym (eb ∙ ap₂ (λ (x y : ℕ). leb x 4096 && leb y 8192) en ew)
 
   -- over a limit before forks
-  pub crowded : (rows outs uses free : List ℕ) → b ≡ false → Measured t rows outs uses free n w n w s r false false
-  unfolding countsOf
+  pub crowded : (rows outs uses free : List ℕ) → b ≡ false → Measured t rows outs uses free n w n w s r false
   crowded rows outs uses free f =
       record {
-        counted = rw (with-forks ∙ f, en, ew, es, er);
         room = sym (no-room t (with-forks ∙ f));
         ready = λ q. absurd (false≢true q);
       }
@@ -121,25 +132,12 @@ module _ (t : List ℕ) (S : Structure t) (rows outs : List ℕ) {n w s r p q : 
     wires-are : w + added ≡ wireTotal t
     wires-are = ap (λ (z : ℕ). z + added) ew ∙ wire-sum t S rows outs zeros uses free L O Z (omega arith) (omega arith) made′ more added F′
 
-    pub measured : withForks t ≡ true → {fits : Bool} → fits ≡ leb (n + more) 4096 && leb (w + added) 8192 → Measured t rows outs uses free n w (n + more) (w + added) s r true fits
-    unfolding countsOf
-    measured f e =
+    pub measured : {fits : Bool} → fits ≡ leb (n + more) 4096 && leb (w + added) 8192 → Measured t rows outs uses free n w (n + more) (w + added) s r fits
+    measured e =
         record {
-          counted = rw (f, nodes-are, wires-are, es, er);
           room = e ∙ ap₂ (λ (x y : ℕ). leb x 4096 && leb y 8192) nodes-are wires-are ∙ room t S;
           ready = λ q. (
             ready t S rows outs zeros uses free L O Z (omega arith) (omega arith) made′ more added F′,
             record { plain = en; plain-wires = ew; nodes = nodes-are; wires = wires-are; starts = es; results = er },
           );
         }
-
--- ---- the answer
-
-module _ (t : List ℕ) {k r : ℕ} (e : answer k r ≡ tableRefusal t) where
-  pub count-refused : (k ≡ 0 → ⊥) → counts 0 0 0 0 false ≡ countAnswer t
-  unfolding countAnswer
-  count-refused n = rw (ne-eqb (tableRefusal t .number) 0 (λ q. n (sym (number-is t e) ∙ q)))
-
-  pub count-done : {all : Counts} → k ≡ 0 → all ≡ countsOf t → all ≡ countAnswer t
-  unfolding countAnswer
-  count-done z h = h ∙ rw (number-is t e, z)

@@ -1,4 +1,3 @@
 -- What measuring a table keeps and answers.
 pub mod Passed
-pub mod Counts
 pub mod Ready

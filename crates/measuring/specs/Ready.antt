@@ -26,7 +26,6 @@ use Rattle.structure.specs.Structure.{Structure}
 use Rattle.lowered.specs.Roles.{result}
 use Rattle.lowered.specs.Lower.{roles, isStart, startRows, isOut, outRows, plainNodes, plainWires, nodeTotal, wireTotal, startTotal, resultTotal}
 use Rattle.lowered.specs.Room.{hasRoom}
-use Rattle.measuring.specs.Counts.{counts, countsOf}
 use Rattle.laid.specs.Lists.{has-elem}
 use Rattle.laid.specs.Those.{those-few}
 use Rattle.laid.specs.Indexed.{joined-same, total-same}
@@ -162,8 +161,7 @@ pub record Ready (t rows outs uses free : List ℕ) : Type 0 where
   pub free-right : (w : ℕ) → w < plainWires t → getD free w 0 ≡ freeFrom t w
 
 -- what measuring a table answers
-pub record Measured (t rows outs uses free : List ℕ) (P W N A S R : ℕ) (exact fits : Bool) : Type 0 where
-  pub counted : counts N A S R exact ≡ countsOf t
+pub record Measured (t rows outs uses free : List ℕ) (P W N A S R : ℕ) (fits : Bool) : Type 0 where
   pub room : fits ≡ hasRoom t
   pub ready : fits ≡ true → Ready t rows outs uses free × Counted t P W N A S R
 

@@ -6,14 +6,13 @@ ghost use lib.ListN.{length};
 ghost use Rattle.carrying.specs.Kept.{Passing};
 ghost use Rattle.forking.specs.Tallied.{Below};
 ghost use Rattle.measuring.specs.Ready.{Measured};
-ghost use Rattle.measuring.specs.Counts.{counts, countAnswer};
 
 const MOST_NODES: u32 = 4096;
 
 const MOST_WIRES: u32 = 8192;
 
 // The counts of a table's graph, and whether they are in their limits: `plain` nodes and `sources`, their wires, before forks; `nodes` and
-// `wires` with them. Where those before forks are over a limit, forks are not counted, and the counts are not exact.
+// `wires` with them. Where those before forks are over a limit, forks are not counted.
 pub struct Sizes {
     pub plain: u32,
     pub sources: u32,
@@ -21,7 +20,6 @@ pub struct Sizes {
     pub wires: u32,
     pub starts: u32,
     pub results: u32,
-    pub exact: bool,
     pub room: bool,
 }
 
@@ -44,7 +42,7 @@ pub fn measure(
     free: &mut [u32; 8192],
 ) -> Sizes
     requires { ⌜ Passing (now table) n × (length (now rows) ≡ 28672) × (length (now outs) ≡ 512) × Below 0 (now uses) × Below 0 (now free) ⌝ }
-    ensures { λ r. ⌜ Measured (now (table .entry)) (now (rows .exit)) (now (outs .exit)) (now (uses .exit)) (now (free .exit)) (r .plain) (r .sources) (r .nodes) (r .wires) (r .starts) (r .results) (r .exact) (r .room) ⌝ }
+    ensures { λ r. ⌜ Measured (now (table .entry)) (now (rows .exit)) (now (outs .exit)) (now (uses .exit)) (now (free .exit)) (r .plain) (r .sources) (r .nodes) (r .wires) (r .starts) (r .results) (r .room) ⌝ }
 {
     let laid = laying::lay(table, n, rows, outs);
     if in_limits(laid.nodes, laid.wires) {} else {
@@ -55,7 +53,6 @@ pub fn measure(
             wires: laid.wires,
             starts: laid.starts,
             results: laid.results,
-            exact: false,
             room: false,
         };
     }
@@ -71,46 +68,6 @@ pub fn measure(
         wires,
         starts: laid.starts,
         results: laid.results,
-        exact: true,
         room: in_limits(nodes, wires),
-    }
-}
-
-// How large the graph of a table is. Where it is `exact` the nodes and wires are the graph's; else they are those before forks, which are over
-// a limit already.
-pub struct Counts {
-    pub nodes: u32,
-    pub wires: u32,
-    pub starts: u32,
-    pub results: u32,
-    pub exact: bool,
-}
-
-// Counts the graph of a table that passes refusals 1 to 9, in its limits or not; of another table, nothing.
-pub fn count_table(table: &[u32]) -> Counts
-    ensures answer { λ r. ⌜ counts (r .nodes) (r .wires) (r .starts) (r .results) (r .exact) ≡ countAnswer (now (table .entry)) ⌝ }
-{
-    let checked = table::check_rows(table);
-    if checked.number != 0 {
-        return Counts {
-            nodes: 0,
-            wires: 0,
-            starts: 0,
-            results: 0,
-            exact: false,
-        };
-    }
-    let n = (table.len() / 6) as u32;
-    let mut rows = [0u32; 28672];
-    let mut outs = [0u32; 512];
-    let mut uses = [0u32; 8192];
-    let mut free = [0u32; 8192];
-    let sizes = measure(table, n, &mut rows, &mut outs, &mut uses, &mut free);
-    Counts {
-        nodes: sizes.nodes,
-        wires: sizes.wires,
-        starts: sizes.starts,
-        results: sizes.results,
-        exact: sizes.exact,
     }
 }

@@ -17,7 +17,7 @@ use Rattle.measuring.specs.Passed.{and-false, refused-by, passed-by}
 use Rattle.measuring.specs.Ready.{Ready}
 use Rattle.naming.specs.Names.{nodeNames, wireNames}
 use Rattle.naming.specs.Carried.{UsesRight}
-use Rattle.naming.specs.Answers.{namesFit, nameRefusal, named, Named, nameAnswer, namesAfter, NameAnswer}
+use Rattle.naming.specs.Answers.{namesFit, nameRefusal, named, nameAnswer, namesAfter, NameAnswer}
 use Rattle.naming.specs.Beside.{names-long}
 
 -- enough lent words for the names

@@ -2,13 +2,12 @@
 -- Assumes nothing.
 use Prim.Native.Nat.{ℕ, _+_, _*_, _<_, _≤_}
 use mathlib.Core.Path.{_≡_, refl, sym, ap, ap₂, _∙_}
-use mathlib.Core.List.{List, [], _∷_, _++_}
+use mathlib.Core.List.{List, _++_}
 use native.Mathlib.Omega.{arith}
-use lib.ListN.{length, getD, getElem?, length-append}
+use lib.ListN.{length, getD, length-append}
 use lib.Seq.{sets, length-sets}
 use Rattle.step.specs.Kinds.{out0, out1}
 use Rattle.graph.specs.Below.{joined}
-use Rattle.table.specs.Rows.{size}
 use Rattle.structure.specs.Structure.{Structure}
 use Rattle.lowered.specs.Gathered.{each}
 use Rattle.lowered.specs.Lists.{has-elem}
@@ -16,7 +15,6 @@ use Rattle.lowered.specs.Roles.{opNode, stream, gate, guard, copySplit, copyInv
 use Rattle.lowered.specs.Lower.{roles, starts, roleOutputs, wires, users, plainNodes, plainWires}
 use Rattle.laid.specs.Indexed.{each-append}
 use Rattle.carrying.specs.Kept.{Passing}
-use Rattle.forking.specs.Tallied.{Below}
 use Rattle.measuring.specs.Passed.{structure-of}
 use Rattle.naming.specs.Names.{roleName, wireWhat, wireName, forkNames, legNames, nodeNames, wireNames}
 use Rattle.naming.specs.Parts.{rowNames, startNames, outputNamesBy, forkNamesBy, legNamesBy}

@@ -98,7 +98,7 @@ fn mark_row(table: &[u32], n: u32, bodies: &[u32; 512], l: u32, r: u32, marks: &
 }
 
 // The values that are named in loop l.
-fn mark_loop(table: &[u32], n: u32, bodies: &[u32; 512], l: u32) -> [u32; 512]
+pub fn mark_loop(table: &[u32], n: u32, bodies: &[u32; 512], l: u32) -> [u32; 512]
     requires { ⌜ Passing (now table) n × Bodies (now table) n (now bodies) × (l < n) × (kindOf (now table) l ≡ 4) ⌝ }
     ensures { λ a. ⌜ Marks (now (table .entry)) l n a ⌝ }
 {
@@ -112,7 +112,7 @@ fn mark_loop(table: &[u32], n: u32, bodies: &[u32; 512], l: u32) -> [u32; 512]
 }
 
 // Whether value v is carried into loop l: named in it, at home outside.
-fn is_carried(
+pub fn is_carried(
     table: &[u32],
     n: u32,
     bodies: &[u32; 512],

@@ -373,27 +373,16 @@ pub fn put_refusal(out: &mut [u8], file: &[u8], table: &[u32], clause: Clause) -
     put_asked(out, c, number)
 }
 
-// A refusal by rule 10: the counts of nodes, wires, starts and results beside their limits. Where they were not counted to the end, they are at least so many.
-pub fn put_room(out: &mut [u8], file: &[u8], counts: [u32; 4], exact: bool) -> usize
+// A refusal by rule 10: the counts of nodes, wires, starts and results beside their limits.
+pub fn put_room(out: &mut [u8], file: &[u8], counts: [u32; 4]) -> usize
     ensures { λ r. ⌜ r ≤ length (now (out .entry)) ⌝ }
 {
     let a = put_head(out, file, ROOM, 0);
-    let b = put_least(out, a, exact);
-    let c = phrases::put(
+    let b = phrases::put(
         out,
-        b,
+        a,
         b"nodes: ~0 (at most 4,096), wires: ~1 (at most 8,192), starts: ~2 (at most 512), results: ~3 (at most 512)",
         counts,
     );
-    put_asked(out, c, ROOM)
-}
-
-fn put_least(out: &mut [u8], at: usize, exact: bool) -> usize
-    requires { ⌜ at ≤ length (now out) ⌝ }
-    ensures { λ r. ⌜ r ≤ length (now (out .entry)) ⌝ }
-{
-    if exact {
-        return at;
-    }
-    text::put(out, at, b"before forks and drains are counted, ")
+    put_asked(out, b, ROOM)
 }

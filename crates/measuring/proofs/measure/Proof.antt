@@ -1,9 +1,8 @@
 -- `measuring::measure` meets its contract. Over a limit before forks is over it with them; else the sums are the graph's counts.
 -- Assumes nothing.
-use mathlib.Core.Path.{_∙_}
 use native.Mathlib.Omega.{arith}
 use borrow.Author.Needs.{needs}
-use Rattle.measuring.proofs.Counting.{with-forks, crowded, few-nodes, few-wires, scratch, measured}
+use Rattle.measuring.proofs.Counting.{crowded, few-nodes, few-wires, scratch, measured}
 use Rattle.measuring.specs.Passed.{structure-of}
 use Rattle.measuring.proofs.measure.Statement.{statement}
 use Rattle.measuring.proofs.measure.Tie as tie
@@ -36,7 +35,7 @@ in-limits-requires-2 : tie.Need-in-limits-requires-2
 in-limits-requires-2 c κs = search needs
 
 returns-2 : tie.Need-returns-2
-returns-2 c = let t = c .before .before .before .before .before .before .before .before .before .before .before .before .before .before .before .before .before .before .args .table .now in let D = c .before .before .before .before .before .before .before .before .before .before .before .before .before .before .lay .ensures in let e = c .before .before .before .before .before .before .before .before .before .before .before .before .before .in-limits .ensures in let y = c .before .before .before .before .before .before .before .before .before .before .before .before .if1 .taken in measured t (structure-of t _ (c .before .before .before .before .before .before .before .before .before .before .before .before .before .before .before .before .before .before .pre .0)) _ _ (D .0) (D .1) (D .2) (D .3) (D .4) (few-nodes t (D .0) (D .1) (D .2) (D .3) e y) (few-wires t (D .0) (D .1) (D .2) (D .3) e y) (c .before .before .before .before .before .before .before .before .before .before .before .wide .ensures .0) (c .before .before .before .before .before .before .before .before .before .before .wide2 .ensures .0) _ _ _ (c .before .before .before .before .before .before .before .before .before .before .before .before .before .before .before .before .before .before .pre .3) (c .before .before .before .before .before .count-uses .ensures .0) (c .before .before .before .before .before .count-uses .ensures .1) (with-forks t (D .0) (D .1) (D .2) (D .3) e ∙ y) (c .in-limits2 .ensures)
+returns-2 c = let t = c .before .before .before .before .before .before .before .before .before .before .before .before .before .before .before .before .before .before .args .table .now in let D = c .before .before .before .before .before .before .before .before .before .before .before .before .before .before .lay .ensures in let e = c .before .before .before .before .before .before .before .before .before .before .before .before .before .in-limits .ensures in let y = c .before .before .before .before .before .before .before .before .before .before .before .before .if1 .taken in measured t (structure-of t _ (c .before .before .before .before .before .before .before .before .before .before .before .before .before .before .before .before .before .before .pre .0)) _ _ (D .0) (D .1) (D .2) (D .3) (D .4) (few-nodes t (D .0) (D .1) (D .2) (D .3) e y) (few-wires t (D .0) (D .1) (D .2) (D .3) e y) (c .before .before .before .before .before .before .before .before .before .before .before .wide .ensures .0) (c .before .before .before .before .before .before .before .before .before .before .wide2 .ensures .0) _ _ _ (c .before .before .before .before .before .before .before .before .before .before .before .before .before .before .before .before .before .before .pre .3) (c .before .before .before .before .before .count-uses .ensures .0) (c .before .before .before .before .before .count-uses .ensures .1) (c .in-limits2 .ensures)
 
 pub measure-spec : {M : Type 1} → statement M
 measure-spec =
