@@ -90,8 +90,10 @@ fn check(job: Job, path: &[u8], text: &[u8], table: &[u32]) -> u32 {
 // Graphs.
 
 fn list(job: Job, graph: &[u32], nodes: &[u32], wires: &[u32], out: &mut [u8]) -> u32 {
-    let n = listed::put_list(out, 0, graph, nodes, wires);
-    files::answer(job.out, job.err, &out[..n])
+    files::written(
+        listed::write_list(job.out, graph, nodes, wires, out),
+        job.err,
+    )
 }
 
 fn draw(job: Job, graph: &[u32], nodes: &[u32], wires: &[u32], out: &mut [u8]) -> u32 {

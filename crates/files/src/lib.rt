@@ -78,13 +78,17 @@ fn fail(err: i32, about: &[u8], error: i32) {
     complain(err, about, &what[..n]);
 }
 
-// An answer. One that cannot be written, as on a full disk, is an error.
-pub fn answer(out: i32, err: i32, text: &[u8]) -> u32 {
-    if io::write_all(out, text) {
+// What a command that has written its answer comes to. An answer that could not be written, as on a full disk, is an error.
+pub fn written(fine: bool, err: i32) -> u32 {
+    if fine {
         return DONE;
     }
     fail(err, b"standard output", os::errno());
     ERROR
+}
+
+pub fn answer(out: i32, err: i32, text: &[u8]) -> u32 {
+    written(io::write_all(out, text), err)
 }
 
 // Whether a file was read, its letters, and its words.

@@ -157,27 +157,53 @@ fn put_node(
     put_outputs(out, d, graph, wires, i)
 }
 
-fn put_nodes(out: &mut [u8], at: usize, graph: &[u32], nodes: &[u32], wires: &[u32]) -> usize
-    requires { ⌜ at ≤ length (now out) ⌝ }
-    ensures { λ r. ⌜ r ≤ length (now (out .entry)) ⌝ }
-{
-    let count = drawn::count_at(graph, 0);
-    let mut n = at;
-    let mut i: usize = 0;
-    while i < count {
-        n = put_node(out, n, graph, nodes, wires, i);
-        i += 1;
-    }
-    n
-}
-
-// The whole list. `nodes` and `wires` are the names of `roles`.
-pub fn put_list(out: &mut [u8], at: usize, graph: &[u32], nodes: &[u32], wires: &[u32]) -> usize
+fn put_head(out: &mut [u8], at: usize, graph: &[u32], wires: &[u32]) -> usize
     requires { ⌜ at ≤ length (now out) ⌝ }
     ensures { λ r. ⌜ r ≤ length (now (out .entry)) ⌝ }
 {
     let a = put_header(out, at, graph);
     let b = put_starts(out, a, graph, wires);
-    let c = put_results(out, b, graph, wires);
-    put_nodes(out, c, graph, nodes, wires)
+    put_results(out, b, graph, wires)
+}
+
+// Writing. The list of a large graph has more letters than the commands have memory, so it is written line by line.
+
+fn write_head(to: i32, graph: &[u32], wires: &[u32], out: &mut [u8]) -> bool {
+    let n = put_head(out, 0, graph, wires);
+    io::write_all(to, &out[..n])
+}
+
+fn write_node(
+    to: i32,
+    graph: &[u32],
+    nodes: &[u32],
+    wires: &[u32],
+    out: &mut [u8],
+    i: usize,
+) -> bool
+    requires { ⌜ i ≤ 8192 ⌝ }
+{
+    let n = put_node(out, 0, graph, nodes, wires, i);
+    io::write_all(to, &out[..n])
+}
+
+fn write_nodes(to: i32, graph: &[u32], nodes: &[u32], wires: &[u32], out: &mut [u8]) -> bool {
+    let count = drawn::count_at(graph, 0);
+    let mut i: usize = 0;
+    while i < count {
+        if write_node(to, graph, nodes, wires, out, i) {
+            i += 1;
+        } else {
+            return false;
+        }
+    }
+    true
+}
+
+// Writes the whole list to a descriptor, by the lent letters; whether it could be written. `nodes` and `wires` are the names of `roles`.
+pub fn write_list(to: i32, graph: &[u32], nodes: &[u32], wires: &[u32], out: &mut [u8]) -> bool {
+    if write_head(to, graph, wires, out) {
+        return write_nodes(to, graph, nodes, wires, out);
+    }
+    false
 }

@@ -1,16 +1,16 @@
--- `listed::put_nodes` meets its contract. Assumes nothing.
+-- `listed::write_nodes` is safe and ends. Assumes nothing.
 use Prim.Native.Nat.{_≤_, _-_}
 use mathlib.Core.Path.{_≡_}
 use borrow.Author.Needs.{needs}
 use lib.ListN.{length}
-use Rattle.listed.proofs.put_nodes.Statement.{statement}
-use Rattle.listed.proofs.put_nodes.Tie as tie
+use Rattle.listed.proofs.write_nodes.Statement.{statement}
+use Rattle.listed.proofs.write_nodes.Tie as tie
 
 abbrev Inv-loop : tie.InvT-loop
-Inv-loop out₀ at graph nodes wires count n₀ i₀ out n i = (n ≤ length out) × (length out ≡ length out₀) × (count ≤ 8192)
+Inv-loop to graph nodes wires out₀ count i₀ out i = (i ≤ count) × (count ≤ 8192) × (length out ≡ length out₀)
 
 abbrev μ-loop : tie.MeasureT-loop
-μ-loop out₀ at graph nodes wires count n₀ i₀ out n i = count - i
+μ-loop to graph nodes wires out₀ count i₀ out i = count - i
 
 count-at-requires : tie.Need-count-at-requires Inv-loop μ-loop
 count-at-requires c κs = search needs
@@ -18,8 +18,8 @@ count-at-requires c κs = search needs
 loop-holds : tie.Need-loop-holds Inv-loop μ-loop
 loop-holds c = search needs
 
-put-node-requires : tie.Need-put-node-requires Inv-loop μ-loop
-put-node-requires c κs = search needs
+write-node-requires : tie.Need-write-node-requires Inv-loop μ-loop
+write-node-requires c κs = search needs
 
 add-i : tie.Need-add-i Inv-loop μ-loop
 add-i c = search needs
@@ -36,17 +36,25 @@ same-length c = search needs
 returns : tie.Need-returns Inv-loop μ-loop
 returns c = search needs
 
-pub put-nodes-spec : {M : Type 1} → statement M
-put-nodes-spec =
+same-length-2 : tie.Need-same-length-2 Inv-loop μ-loop
+same-length-2 c = search needs
+
+returns-2 : tie.Need-returns-2 Inv-loop μ-loop
+returns-2 c = search needs
+
+pub write-nodes-spec : {M : Type 1} → statement M
+write-nodes-spec =
     tie.close
     (tie.spec
     Inv-loop
     μ-loop
     count-at-requires
     loop-holds
-    put-node-requires
+    write-node-requires
     add-i
     loop-less
     loop-again
     same-length
-    returns)
+    returns
+    same-length-2
+    returns-2)
