@@ -96,9 +96,18 @@ fn list(job: Job, graph: &[u32], nodes: &[u32], wires: &[u32], out: &mut [u8]) -
     )
 }
 
-fn draw(job: Job, graph: &[u32], nodes: &[u32], wires: &[u32], out: &mut [u8]) -> u32 {
-    let n = drawn::put_drawing(out, 0, graph, &[], nodes, wires);
-    files::answer(job.out, job.err, &out[..n])
+fn draw(
+    job: Job,
+    graph: &[u32],
+    state: &[u32],
+    nodes: &[u32],
+    wires: &[u32],
+    out: &mut [u8],
+) -> u32 {
+    files::written(
+        listed::write_drawing(job.out, graph, state, nodes, wires, out),
+        job.err,
+    )
 }
 
 fn whole(count: usize) -> Got
@@ -201,7 +210,13 @@ fn rehearse(
         out,
     );
     let n = rehearsed.count;
-    tell(job, rehearsed.refused, &out[..n])
+    let told = tell(job, rehearsed.refused, &out[..n]);
+    if job.command == DRAW {
+        if told == DONE {
+            return draw(job, graph, &state[..k], nodes, wires, out);
+        }
+    }
+    told
 }
 
 fn run(
@@ -237,7 +252,7 @@ fn on_named(
     }
     if job.command == DRAW {
         if asked.run {} else {
-            return draw(job, graph, nodes, wires, text);
+            return draw(job, graph, &[], nodes, wires, text);
         }
     }
     run(job, inputs, line, graph, nodes, wires, text)

@@ -433,6 +433,23 @@ fn put_input(
     at
 }
 
+// Node i and the wires to it.
+pub fn put_part(
+    out: &mut [u8],
+    at: usize,
+    graph: &[u32],
+    state: &[u32],
+    nodes: &[u32],
+    wires: &[u32],
+    i: usize,
+) -> usize
+    requires { ⌜ (at ≤ length (now out)) × (i ≤ 8192) ⌝ }
+    ensures { λ r. ⌜ r ≤ length (now (out .entry)) ⌝ }
+{
+    let n = put_node(out, at, graph, nodes, i);
+    put_inputs(out, n, graph, state, wires, i)
+}
+
 fn put_nodes(
     out: &mut [u8],
     at: usize,
@@ -448,8 +465,7 @@ fn put_nodes(
     let mut n = at;
     let mut i: usize = 0;
     while i < count {
-        n = put_node(out, n, graph, nodes, i);
-        n = put_inputs(out, n, graph, state, wires, i);
+        n = put_part(out, n, graph, state, nodes, wires, i);
         i += 1;
     }
     n
@@ -518,6 +534,27 @@ fn put_results(out: &mut [u8], at: usize, graph: &[u32], state: &[u32], wires: &
     n
 }
 
+// What stands above the nodes.
+pub fn put_top(out: &mut [u8], at: usize, graph: &[u32]) -> usize
+    requires { ⌜ at ≤ length (now out) ⌝ }
+    ensures { λ r. ⌜ r ≤ length (now (out .entry)) ⌝ }
+{
+    let legend =
+        b"label=\"solid: words, dashed: flags; a wire has its number, then the token on it; T and F: the true and the false leg\";\n";
+    let a = text::put(out, at, b"digraph graph_of_tokens {\n");
+    let b = text::put(out, a, legend);
+    put_starts(out, b, graph)
+}
+
+// What stands below them.
+pub fn put_bottom(out: &mut [u8], at: usize, graph: &[u32], state: &[u32], wires: &[u32]) -> usize
+    requires { ⌜ at ≤ length (now out) ⌝ }
+    ensures { λ r. ⌜ r ≤ length (now (out .entry)) ⌝ }
+{
+    let n = put_results(out, at, graph, state, wires);
+    text::put(out, n, b"}\n")
+}
+
 // The whole drawing. A state of no words has no tokens. `nodes` and `wires` have three words for each name: what it is, its row, and of a copy
 // the value's row; without words there are no names.
 pub fn put_drawing(
@@ -531,12 +568,7 @@ pub fn put_drawing(
     requires { ⌜ at ≤ length (now out) ⌝ }
     ensures { λ r. ⌜ r ≤ length (now (out .entry)) ⌝ }
 {
-    let legend =
-        b"label=\"solid: words, dashed: flags; a wire has its number, then the token on it; T and F: the true and the false leg\";\n";
-    let a = text::put(out, at, b"digraph graph_of_tokens {\n");
-    let b = text::put(out, a, legend);
-    let c = put_starts(out, b, graph);
-    let d = put_nodes(out, c, graph, state, nodes, wires);
-    let e = put_results(out, d, graph, state, wires);
-    text::put(out, e, b"}\n")
+    let a = put_top(out, at, graph);
+    let b = put_nodes(out, a, graph, state, nodes, wires);
+    put_bottom(out, b, graph, state, wires)
 }

@@ -166,16 +166,71 @@ fn put_head(out: &mut [u8], at: usize, graph: &[u32], wires: &[u32]) -> usize
     put_results(out, b, graph, wires)
 }
 
-// Writing. The list of a large graph has more letters than the commands have memory, so it is written line by line.
+// Writing. The list or the drawing of a large graph has more letters than the commands have memory, so it is written part by part, by the lent letters.
 
-fn write_head(to: i32, graph: &[u32], wires: &[u32], out: &mut [u8]) -> bool {
-    let n = put_head(out, 0, graph, wires);
+// What is written of a graph: its words, or a drawing.
+struct Kind {
+    drawing: bool,
+}
+
+fn put_above(out: &mut [u8], kind: Kind, graph: &[u32], wires: &[u32]) -> usize
+    ensures { λ r. ⌜ r ≤ length (now (out .entry)) ⌝ }
+{
+    if kind.drawing {
+        return drawn::put_top(out, 0, graph);
+    }
+    put_head(out, 0, graph, wires)
+}
+
+fn put_below(out: &mut [u8], kind: Kind, graph: &[u32], state: &[u32], wires: &[u32]) -> usize
+    ensures { λ r. ⌜ r ≤ length (now (out .entry)) ⌝ }
+{
+    if kind.drawing {
+        return drawn::put_bottom(out, 0, graph, state, wires);
+    }
+    0
+}
+
+fn put_part(
+    out: &mut [u8],
+    kind: Kind,
+    graph: &[u32],
+    state: &[u32],
+    nodes: &[u32],
+    wires: &[u32],
+    i: usize,
+) -> usize
+    requires { ⌜ i ≤ 8192 ⌝ }
+    ensures { λ r. ⌜ r ≤ length (now (out .entry)) ⌝ }
+{
+    if kind.drawing {
+        return drawn::put_part(out, 0, graph, state, nodes, wires, i);
+    }
+    put_node(out, 0, graph, nodes, wires, i)
+}
+
+fn write_above(to: i32, kind: Kind, graph: &[u32], wires: &[u32], out: &mut [u8]) -> bool {
+    let n = put_above(out, kind, graph, wires);
     io::write_all(to, &out[..n])
 }
 
-fn write_node(
+fn write_below(
     to: i32,
+    kind: Kind,
     graph: &[u32],
+    state: &[u32],
+    wires: &[u32],
+    out: &mut [u8],
+) -> bool {
+    let n = put_below(out, kind, graph, state, wires);
+    io::write_all(to, &out[..n])
+}
+
+fn write_part(
+    to: i32,
+    kind: Kind,
+    graph: &[u32],
+    state: &[u32],
     nodes: &[u32],
     wires: &[u32],
     out: &mut [u8],
@@ -183,15 +238,23 @@ fn write_node(
 ) -> bool
     requires { ⌜ i ≤ 8192 ⌝ }
 {
-    let n = put_node(out, 0, graph, nodes, wires, i);
+    let n = put_part(out, kind, graph, state, nodes, wires, i);
     io::write_all(to, &out[..n])
 }
 
-fn write_nodes(to: i32, graph: &[u32], nodes: &[u32], wires: &[u32], out: &mut [u8]) -> bool {
+fn write_parts(
+    to: i32,
+    kind: Kind,
+    graph: &[u32],
+    state: &[u32],
+    nodes: &[u32],
+    wires: &[u32],
+    out: &mut [u8],
+) -> bool {
     let count = drawn::count_at(graph, 0);
     let mut i: usize = 0;
     while i < count {
-        if write_node(to, graph, nodes, wires, out, i) {
+        if write_part(to, kind, graph, state, nodes, wires, out, i) {
             i += 1;
         } else {
             return false;
@@ -200,10 +263,37 @@ fn write_nodes(to: i32, graph: &[u32], nodes: &[u32], wires: &[u32], out: &mut [
     true
 }
 
-// Writes the whole list to a descriptor, by the lent letters; whether it could be written. `nodes` and `wires` are the names of `roles`.
-pub fn write_list(to: i32, graph: &[u32], nodes: &[u32], wires: &[u32], out: &mut [u8]) -> bool {
-    if write_head(to, graph, wires, out) {
-        return write_nodes(to, graph, nodes, wires, out);
+fn write_graph(
+    to: i32,
+    kind: Kind,
+    graph: &[u32],
+    state: &[u32],
+    nodes: &[u32],
+    wires: &[u32],
+    out: &mut [u8],
+) -> bool {
+    if write_above(to, kind, graph, wires, out) {} else {
+        return false;
     }
-    false
+    if write_parts(to, kind, graph, state, nodes, wires, out) {} else {
+        return false;
+    }
+    write_below(to, kind, graph, state, wires, out)
+}
+
+// Writes a graph's words with what they say; whether that could be done. `nodes` and `wires` are the names of `roles`.
+pub fn write_list(to: i32, graph: &[u32], nodes: &[u32], wires: &[u32], out: &mut [u8]) -> bool {
+    write_graph(to, Kind { drawing: false }, graph, &[], nodes, wires, out)
+}
+
+// Writes a graph's drawing, with the tokens of a state.
+pub fn write_drawing(
+    to: i32,
+    graph: &[u32],
+    state: &[u32],
+    nodes: &[u32],
+    wires: &[u32],
+    out: &mut [u8],
+) -> bool {
+    write_graph(to, Kind { drawing: true }, graph, state, nodes, wires, out)
 }

@@ -264,7 +264,7 @@ fn put_rested(
     }
 }
 
-// Loads and runs a graph, and draws it with the tokens that stand on its wires then. The answer is a comment above the drawing.
+// Loads and runs a graph that is to be drawn with the tokens that stand on its wires then. The answer is told as a comment above the drawing.
 pub fn draw_graph(
     graph: &[u32],
     nodes: &[u32],
@@ -283,27 +283,19 @@ pub fn draw_graph(
         return put_refused(out, number, graph, inputs.len());
     }
     let ran = traced::run_told(graph, nodes, wires, state, order, allowance, how);
-    put_drawn(out, graph, nodes, wires, state, ran)
+    put_drawn(out, graph, nodes, ran)
 }
 
-fn put_drawn(
-    out: &mut [u8],
-    graph: &[u32],
-    nodes: &[u32],
-    wires: &[u32],
-    state: &[u32],
-    ran: Ran,
-) -> Rehearsed
+fn put_drawn(out: &mut [u8], graph: &[u32], nodes: &[u32], ran: Ran) -> Rehearsed
     ensures { λ r. ⌜ r .count ≤ length (now (out .entry)) ⌝ }
 {
     let number = refusal_of(ran);
     if number != 0 {
         return put_refused(out, number, graph, 0);
     }
-    let a = text::put(out, 0, b"// ");
-    let b = put_answered(out, a, graph, nodes, ran);
+    let n = text::put(out, 0, b"// ");
     Rehearsed {
-        count: drawn::put_drawing(out, b, graph, state, nodes, wires),
+        count: put_answered(out, n, graph, nodes, ran),
         refused: false,
     }
 }

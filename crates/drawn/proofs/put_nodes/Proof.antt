@@ -1,4 +1,4 @@
--- `drawn::put_nodes` meets its contract: what is put lies within the letters lent. Assumes nothing.
+-- `drawn::put_nodes` meets its contract: what is put lies within the answer. Assumes nothing.
 use Prim.Native.Nat.{_≤_, _-_}
 use mathlib.Core.Path.{_≡_}
 use borrow.Author.Needs.{needs}
@@ -18,11 +18,8 @@ count-at-requires c κs = search needs
 loop-holds : tie.Need-loop-holds Inv-loop μ-loop
 loop-holds c = search needs
 
-put-node-requires : tie.Need-put-node-requires Inv-loop μ-loop
-put-node-requires c κs = search needs
-
-put-inputs-requires : tie.Need-put-inputs-requires Inv-loop μ-loop
-put-inputs-requires c κs = search needs
+put-part-requires : tie.Need-put-part-requires Inv-loop μ-loop
+put-part-requires c κs = search needs
 
 add-i : tie.Need-add-i Inv-loop μ-loop
 add-i c = search needs
@@ -47,8 +44,7 @@ put-nodes-spec =
     μ-loop
     count-at-requires
     loop-holds
-    put-node-requires
-    put-inputs-requires
+    put-part-requires
     add-i
     loop-less
     loop-again

@@ -1,16 +1,16 @@
--- `listed::write_nodes` is safe and ends. Assumes nothing.
+-- `listed::write_parts` meets its contract: safe, and it ends. Assumes nothing.
 use Prim.Native.Nat.{_≤_, _-_}
 use mathlib.Core.Path.{_≡_}
 use borrow.Author.Needs.{needs}
 use lib.ListN.{length}
-use Rattle.listed.proofs.write_nodes.Statement.{statement}
-use Rattle.listed.proofs.write_nodes.Tie as tie
+use Rattle.listed.proofs.write_parts.Statement.{statement}
+use Rattle.listed.proofs.write_parts.Tie as tie
 
 abbrev Inv-loop : tie.InvT-loop
-Inv-loop to graph nodes wires out₀ count i₀ out i = (i ≤ count) × (count ≤ 8192) × (length out ≡ length out₀)
+Inv-loop to kind graph state nodes wires out₀ count i₀ out i = (i ≤ count) × (count ≤ 8192) × (length out ≡ length out₀)
 
 abbrev μ-loop : tie.MeasureT-loop
-μ-loop to graph nodes wires out₀ count i₀ out i = count - i
+μ-loop to kind graph state nodes wires out₀ count i₀ out i = count - i
 
 count-at-requires : tie.Need-count-at-requires Inv-loop μ-loop
 count-at-requires c κs = search needs
@@ -18,8 +18,8 @@ count-at-requires c κs = search needs
 loop-holds : tie.Need-loop-holds Inv-loop μ-loop
 loop-holds c = search needs
 
-write-node-requires : tie.Need-write-node-requires Inv-loop μ-loop
-write-node-requires c κs = search needs
+write-part-requires : tie.Need-write-part-requires Inv-loop μ-loop
+write-part-requires c κs = search needs
 
 add-i : tie.Need-add-i Inv-loop μ-loop
 add-i c = search needs
@@ -42,15 +42,15 @@ same-length-2 c = search needs
 returns-2 : tie.Need-returns-2 Inv-loop μ-loop
 returns-2 c = search needs
 
-pub write-nodes-spec : {M : Type 1} → statement M
-write-nodes-spec =
+pub write-parts-spec : {M : Type 1} → statement M
+write-parts-spec =
     tie.close
     (tie.spec
     Inv-loop
     μ-loop
     count-at-requires
     loop-holds
-    write-node-requires
+    write-part-requires
     add-i
     loop-less
     loop-again

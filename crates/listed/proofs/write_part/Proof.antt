@@ -1,13 +1,13 @@
--- `listed::write_node` is safe and ends. Assumes nothing.
+-- `listed::write_part` is safe and ends. Assumes nothing.
 use mathlib.Core.Path.{sym}
 use native.Mathlib.Omega.{arith}
 use borrow.Author.Needs.{needs}
 use lib.Seq.{length-take-le}
-use Rattle.listed.proofs.write_node.Statement.{statement}
-use Rattle.listed.proofs.write_node.Tie as tie
+use Rattle.listed.proofs.write_part.Statement.{statement}
+use Rattle.listed.proofs.write_part.Tie as tie
 
-put-node-requires : tie.Need-put-node-requires
-put-node-requires c κs = search needs
+put-part-requires : tie.Need-put-part-requires
+put-part-requires c κs = search needs
 
 slice-reshare-prefix-write-all : tie.Need-slice-reshare-prefix-write-all
 slice-reshare-prefix-write-all c = search needs
@@ -24,11 +24,11 @@ same-length c = search needs
 returns : tie.Need-returns
 returns c = search needs
 
-pub write-node-spec : {M : Type 1} → statement M
-write-node-spec =
+pub write-part-spec : {M : Type 1} → statement M
+write-part-spec =
     tie.close
     (tie.spec
-    put-node-requires
+    put-part-requires
     slice-reshare-prefix-write-all
     slice-aggregate-write-all
     write-all-requires

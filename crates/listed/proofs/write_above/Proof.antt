@@ -1,13 +1,13 @@
--- `listed::write_head` is safe and ends. Assumes nothing.
+-- `listed::write_above` is safe and ends. Assumes nothing.
 use mathlib.Core.Path.{sym}
 use native.Mathlib.Omega.{arith}
 use borrow.Author.Needs.{needs}
 use lib.Seq.{length-take-le}
-use Rattle.listed.proofs.write_head.Statement.{statement}
-use Rattle.listed.proofs.write_head.Tie as tie
+use Rattle.listed.proofs.write_above.Statement.{statement}
+use Rattle.listed.proofs.write_above.Tie as tie
 
-put-head-requires : tie.Need-put-head-requires
-put-head-requires c κs = search needs
+put-above-requires : tie.Need-put-above-requires
+put-above-requires c κs = search needs
 
 slice-reshare-prefix-write-all : tie.Need-slice-reshare-prefix-write-all
 slice-reshare-prefix-write-all c = search needs
@@ -24,11 +24,11 @@ same-length c = search needs
 returns : tie.Need-returns
 returns c = search needs
 
-pub write-head-spec : {M : Type 1} → statement M
-write-head-spec =
+pub write-above-spec : {M : Type 1} → statement M
+write-above-spec =
     tie.close
     (tie.spec
-    put-head-requires
+    put-above-requires
     slice-reshare-prefix-write-all
     slice-aggregate-write-all
     write-all-requires
