@@ -188,6 +188,28 @@ fn tell(job: Job, refused: bool, text: &[u8]) -> u32 {
     files::answer(job.out, job.err, text)
 }
 
+// Above a drawing the answer stands as a comment.
+fn rehearse_in(
+    job: Job,
+    inputs: &[u32],
+    graph: &[u32],
+    nodes: &[u32],
+    wires: &[u32],
+    order: &[u32],
+    state: &mut [u32],
+    out: &mut [u8],
+) -> u32 {
+    let rehearsed = put_rehearsed(job, inputs, graph, nodes, wires, order, state, out);
+    let n = rehearsed.count;
+    let told = tell(job, rehearsed.refused, &out[..n]);
+    if job.command == DRAW {
+        if told == DONE {
+            return draw(job, graph, state, nodes, wires, out);
+        }
+    }
+    told
+}
+
 fn rehearse(
     job: Job,
     inputs: &[u32],
@@ -199,7 +221,7 @@ fn rehearse(
 ) -> u32 {
     let mut state = [0u32; 32768];
     let k = rehearsal::state_words(graph);
-    let rehearsed = put_rehearsed(
+    rehearse_in(
         job,
         inputs,
         graph,
@@ -208,15 +230,7 @@ fn rehearse(
         order,
         &mut state[..k],
         out,
-    );
-    let n = rehearsed.count;
-    let told = tell(job, rehearsed.refused, &out[..n]);
-    if job.command == DRAW {
-        if told == DONE {
-            return draw(job, graph, &state[..k], nodes, wires, out);
-        }
-    }
-    told
+    )
 }
 
 fn run(

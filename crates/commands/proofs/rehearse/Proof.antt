@@ -12,20 +12,11 @@ state-words-requires c κs = search needs
 array-borrow-prefix-state : tie.Need-array-borrow-prefix-state
 array-borrow-prefix-state c = search needs
 
-slice-aggregate-put-rehearsed : tie.Need-slice-aggregate-put-rehearsed
-slice-aggregate-put-rehearsed c = sym (length-take-le _ _ (omega arith))
+slice-aggregate-rehearse-in : tie.Need-slice-aggregate-rehearse-in
+slice-aggregate-rehearse-in c = sym (length-take-le _ _ (omega arith))
 
-put-rehearsed-requires : tie.Need-put-rehearsed-requires
-put-rehearsed-requires c κs = search needs
-
-slice-reshare-prefix-tell : tie.Need-slice-reshare-prefix-tell
-slice-reshare-prefix-tell c = search needs
-
-slice-aggregate-tell : tie.Need-slice-aggregate-tell
-slice-aggregate-tell c = sym (length-take-le _ _ (omega arith))
-
-tell-requires : tie.Need-tell-requires
-tell-requires c κs = search needs
+rehearse-in-requires : tie.Need-rehearse-in-requires
+rehearse-in-requires c κs = search needs
 
 same-length : tie.Need-same-length
 same-length c = search needs
@@ -39,10 +30,7 @@ rehearse-spec =
     (tie.spec
     state-words-requires
     array-borrow-prefix-state
-    slice-aggregate-put-rehearsed
-    put-rehearsed-requires
-    slice-reshare-prefix-tell
-    slice-aggregate-tell
-    tell-requires
+    slice-aggregate-rehearse-in
+    rehearse-in-requires
     same-length
     returns)
