@@ -107,7 +107,7 @@ legNames w (u ∷ v ∷ us) = wireName w ++ (wireName w ++ legNames w (v ∷ us)
 
 -- ---- the graph
 
--- 'Nodes, row by row', 'then for every wire so far, in wire order'
+-- 'Nodes, row by row'; 'Then each of these wires has its turn, in the order of their numbers.'
 unfoldable pub nodeNames : List ℕ → List ℕ
 nodeNames t = each roleName (roles t) ++ each (λ w. forkNames w (users t w)) (wires t)
 
