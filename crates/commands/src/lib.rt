@@ -32,20 +32,20 @@ struct Job {
     asked: Asked,
 }
 
-fn usage(to: i32) {
+fn usage(to: i32) -> bool {
     io::write_all(
         to,
-        b"rehearse check TABLE                      whether a loop table is right; if not, the row and the rule that refuses it
+        b"rehearse check TABLE                      whether a loop table is right; if not, what to mend: the rule, the row, the clause
 rehearse run TABLE INPUT.. [OPTION..]     runs a table on its input words
-rehearse lower TABLE                      the words of a table's graph
+rehearse lower TABLE                      the words of a table's graph, with what they say as comments
 rehearse draw TABLE [INPUT.. OPTION..]    a table's graph as Graphviz text; with inputs, the tokens after a run
 rehearse calls                            answers calls, one a line, from standard input
 rehearse --help                           this
-Options of run: --order FILE, node numbers to go through once before the sweeps; --reverse, the nodes from the last to 0 so;
+Options of run, and of draw but for --trace: --order FILE, node numbers to go through once before the sweeps; --reverse, all nodes from the last to 0 so;
 --allowance N, the most firings, 1,000,000,000 where it is not given; --trace, a line for each firing.
 A table is a file of decimal words, six to a row; # starts a comment.
 ",
-    );
+    )
 }
 
 // Refusals of a table.
@@ -466,7 +466,7 @@ pub fn refuse_long(out: i32, err: i32) {
 // Does what the arguments in a text ask.
 pub fn obey(line: &[u8], out: i32, err: i32) {
     if arguments::asks_help(line) {
-        usage(out);
+        files::written(usage(out), err);
         return;
     }
     if text::same(arguments::argument(line, 0), b"calls") {

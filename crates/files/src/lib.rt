@@ -43,7 +43,7 @@ fn put_trouble(out: &mut [u8], at: usize, error: i32) -> usize
         NO_FILE => text::put(out, at, b"there is no such file"),
         NO_DEVICE => text::put(out, at, b"the device failed"),
         CLOSED => text::put(out, at, b"it is closed"),
-        NOT_ALLOWED => text::put(out, at, b"it is not allowed to read this file"),
+        NOT_ALLOWED => text::put(out, at, b"this file may not be read"),
         NO_DIRECTORY => text::put(out, at, b"a part of its path is no directory"),
         DIRECTORY => text::put(out, at, b"this is a directory"),
         TOO_LARGE => text::put(out, at, b"the file grows too large"),
@@ -179,7 +179,7 @@ fn read_opened(
         complain(
             err,
             path,
-            b"the file has more letters than the 1,048,576 that there is room for",
+            b"the file has more bytes than the 1,048,576 that there is room for",
         );
         return nothing_got();
     }

@@ -210,11 +210,12 @@ fn later_case(v: u32, row: u32, size: u32) -> usize {
     2
 }
 
-// A FOR and an ARG are a loop's own; the other kinds only stand in one.
+// A FOR and an ARG are a loop's own, a NEXT is at home around its loop, and the other kinds only stand in one.
 fn closed_case(kind: u32) -> usize {
     match kind {
         4 => 4,
         5 => 4,
+        6 => 8,
         _ => 5,
     }
 }
@@ -237,7 +238,7 @@ fn put_name(out: &mut [u8], at: usize, table: &[u32], clause: Clause) -> usize
     let place = name_case(clause.fault, kind, v, clause.row, size);
     let values = [clause.word, v, kind, last_or_body(place, size, clause.body)];
     let sentences =
-        b"^0 names row $1, and the last row is row $3;^0 names row $1, this row itself;^0 names row $1, which comes later;^0 names row $1, @2, which has no value;^0 names row $1, the %2 of a loop that is closed;^0 names row $1, @2 in a loop that is closed, that of the FOR at row $3;^0 names row $1, the %2 of this very loop: an ARG starts from a value outside its loop;^0 names row $1, a NEXT whose END has not come";
+        b"^0 names row $1, and the last row is row $3;^0 names row $1, this row itself;^0 names row $1, which comes later;^0 names row $1, @2, which has no value;^0 names row $1, the %2 of a loop that is closed;^0 names row $1, @2 in a loop that is closed, that of the FOR at row $3;^0 names row $1, the %2 of this very loop: an ARG starts from a value outside its loop;^0 names row $1, a NEXT whose END has not come;^0 names row $1, the NEXT of a loop within a loop that is closed, that of the FOR at row $3";
     phrases::put(out, at, text::part(sentences, place), values)
 }
 

@@ -298,7 +298,11 @@ pub fn put_spent(out: &mut [u8], at: usize, graph: &[u32], state: &[u32], nodes:
         b"the allowance is spent and the results are not final; tokens on wires:",
     );
     let b = text::put_next(out, a, tokens(graph, state) as u64);
-    let c = text::put(out, b, b"; try a larger --allowance\n");
+    let c = text::put(
+        out,
+        b,
+        b"; a larger --allowance helps where an index moves towards its bound\n",
+    );
     put_loops(out, c, graph, state, nodes)
 }
 

@@ -16,10 +16,10 @@ use borrow.Author.Tests.{eq-eqb, ne-eqb, lt-ltb, le-ltb, le-leb, lt-leb, eqb-fal
 use lib.Dec.{eqb, leb, ltb}
 use lib.ListN.{length}
 use Rattle.table.specs.Rows.{kindOf, word, size, CONST, OP, FOR, ARG, NEXT, END, OUT, usedWords, operandCount, firstOperand, sortOf, wantedSort}
-use Rattle.table.specs.Scan.{Loop, stackAt, readStack, home, bodyOpen, endPassed, visible}
+use Rattle.table.specs.Scan.{Loop, stackAt, bodyOf, readStack, home, bodyOpen, endPassed, visible}
 use Rattle.table.specs.Bodies.{nextsIn}
 use Rattle.table.specs.Check.{LENGTH, KIND, SPARE, CODE, PLACE, DEPTH, NAME, TYPE, OPEN, zerosFrom, spareRight, codeRight, kindBefore, follows, argLeft, allServed, outside, stands, placeRight, lengthRight, kindRight, depthRight, endRight, orElse, rowRefusal, Refusal, answer, rowsFrom, tableRefusal, namesFrom, namesRight, typesFrom, typesRight}
-use Rattle.table.specs.Clauses.{argsIn, lengthFault, detail, loopDetail, nameDetail, explained, Told, firstFrom, isZero, spareWord, codeWord, followsFault, nextFault, endFault, standsFault, placeFault, sight, isSeen, hiddenWord, isSorted, mistypedWord}
+use Rattle.table.specs.Clauses.{argsIn, lengthFault, detail, loopDetail, nameDetail, explained, Told, firstFrom, isZero, spareWord, codeWord, followsFault, nextFault, endFault, standsFault, placeFault, sight, hiddenBody, isSeen, hiddenWord, isSorted, mistypedWord}
 
 -- one word more: the first failing word is k itself, or a later one
 one-more : (b rest : Bool) (x k : ℕ) → 1 ≤ k → rest ≡ eqb x 0 → (b && rest) ≡ eqb (cond b x k) 0
@@ -156,35 +156,35 @@ pub data Among (kind : ℕ) (s : List Loop) (fault : ℕ) : Type 0 where
   early-end : fault ≡ 8 → kind ≡ END → outside s ≡ false → (nextsIn s ≡ argsIn s → ⊥) → Among kind s fault
   inner-out : fault ≡ 9 → kind ≡ OUT → outside s ≡ false → Among kind s fault
 
--- value v named in row r
-pub data Hidden (t : List ℕ) (r v fault : ℕ) : Type 0 where
-  later : fault ≡ 1 → r ≤ v → Hidden t r v fault
-  valueless : fault ≡ 2 → v < r → NEXT < kindOf t v → Hidden t r v fault
-  closed : fault ≡ 3 → v < r → bodyOpen (size t) (home t v) (stackAt t r) ≡ false → Hidden t r v fault
-  entered : fault ≡ 4 → v < r → bodyOpen (size t) (home t v) (readStack t r) ≡ false → bodyOpen (size t) (home t v) (stackAt t r) ≡ true → Hidden t r v fault
-  unended : fault ≡ 5 → v < r → endPassed t r v ≡ false → Hidden t r v fault
+-- value v named in row r, and the loop that hides it
+pub data Hidden (t : List ℕ) (r v fault body : ℕ) : Type 0 where
+  later : fault ≡ 1 → r ≤ v → Hidden t r v fault body
+  valueless : fault ≡ 2 → v < r → NEXT < kindOf t v → Hidden t r v fault body
+  closed : fault ≡ 3 → v < r → body ≡ home t v → bodyOpen (size t) body (stackAt t r) ≡ false → Hidden t r v fault body
+  entered : fault ≡ 4 → v < r → body ≡ home t v → bodyOpen (size t) body (readStack t r) ≡ false → bodyOpen (size t) body (stackAt t r) ≡ true → Hidden t r v fault body
+  unended : fault ≡ 5 → v < r → body ≡ bodyOf t v → endPassed t r v ≡ false → Hidden t r v fault body
 
 -- word k of row r names a value
 abbrev pub Operand : List ℕ → ℕ → ℕ → Type 0
 Operand t r k = (firstOperand (kindOf t r) ≤ k) × (k < firstOperand (kindOf t r) + operandCount (kindOf t r))
 
 -- THE CLAUSES
-pub data Broken (t : List ℕ) (number r fault k : ℕ) : Type 0 where
-  split-row : number ≡ LENGTH → fault ≡ 1 → (length t % 6 ≡ 0 → ⊥) → Broken t number r fault k
-  no-row : number ≡ LENGTH → fault ≡ 2 → size t < 1 → Broken t number r fault k
-  many-rows : number ≡ LENGTH → fault ≡ 3 → 512 < size t → Broken t number r fault k
-  no-kind : number ≡ KIND → OUT < kindOf t r → Broken t number r fault k
-  spare-word : number ≡ SPARE → usedWords (kindOf t r) < k → k ≤ 5 → (word t r k ≡ 0 → ⊥) → Broken t number r fault k
-  operator : number ≡ CODE → kindOf t r ≡ OP → k ≡ 1 → 7 < word t r k → Broken t number r fault k
-  update : number ≡ CODE → kindOf t r ≡ FOR → k ≡ 4 → 5 < word t r k → Broken t number r fault k
-  condition : number ≡ CODE → kindOf t r ≡ FOR → k ≡ 5 → 4 < word t r k → Broken t number r fault k
-  place-behind : number ≡ PLACE → Behind (kindBefore t r) (kindOf t r) fault → Broken t number r fault k
-  place-among : number ≡ PLACE → Among (kindOf t r) (stackAt t r) fault → Broken t number r fault k
-  nine-deep : number ≡ DEPTH → kindOf t r ≡ FOR → 8 ≤ length (stackAt t r) → Broken t number r fault k
-  hidden-name : number ≡ NAME → Operand t r k → Hidden t r (word t r k) fault → Broken t number r fault k
-  wrong-sort : number ≡ TYPE → Operand t r k → fault ≡ wantedSort (kindOf t r) k → (sortOf t (word t r k) ≡ fault → ⊥) → Broken t number r fault k
-  loop-open : number ≡ OPEN → r ≡ size t → fault ≡ 1 → outside (stackAt t r) ≡ false → Broken t number r fault k
-  no-out : number ≡ OPEN → r ≡ size t → fault ≡ 2 → outside (stackAt t r) ≡ true → (kindBefore t r ≡ OUT → ⊥) → Broken t number r fault k
+pub data Broken (t : List ℕ) (number r fault k body : ℕ) : Type 0 where
+  split-row : number ≡ LENGTH → fault ≡ 1 → (length t % 6 ≡ 0 → ⊥) → Broken t number r fault k body
+  no-row : number ≡ LENGTH → fault ≡ 2 → size t < 1 → Broken t number r fault k body
+  many-rows : number ≡ LENGTH → fault ≡ 3 → 512 < size t → Broken t number r fault k body
+  no-kind : number ≡ KIND → OUT < kindOf t r → Broken t number r fault k body
+  spare-word : number ≡ SPARE → usedWords (kindOf t r) < k → k ≤ 5 → (word t r k ≡ 0 → ⊥) → Broken t number r fault k body
+  operator : number ≡ CODE → kindOf t r ≡ OP → k ≡ 1 → 7 < word t r k → Broken t number r fault k body
+  update : number ≡ CODE → kindOf t r ≡ FOR → k ≡ 4 → 5 < word t r k → Broken t number r fault k body
+  condition : number ≡ CODE → kindOf t r ≡ FOR → k ≡ 5 → 4 < word t r k → Broken t number r fault k body
+  place-behind : number ≡ PLACE → Behind (kindBefore t r) (kindOf t r) fault → Broken t number r fault k body
+  place-among : number ≡ PLACE → body ≡ bodyOf t r → Among (kindOf t r) (stackAt t r) fault → Broken t number r fault k body
+  nine-deep : number ≡ DEPTH → body ≡ bodyOf t r → kindOf t r ≡ FOR → 8 ≤ length (stackAt t r) → Broken t number r fault k body
+  hidden-name : number ≡ NAME → Operand t r k → Hidden t r (word t r k) fault body → Broken t number r fault k body
+  wrong-sort : number ≡ TYPE → Operand t r k → fault ≡ wantedSort (kindOf t r) k → (sortOf t (word t r k) ≡ fault → ⊥) → Broken t number r fault k body
+  loop-open : number ≡ OPEN → r ≡ size t → body ≡ bodyOf t r → fault ≡ 1 → outside (stackAt t r) ≡ false → Broken t number r fault k body
+  no-out : number ≡ OPEN → r ≡ size t → fault ≡ 2 → outside (stackAt t r) ≡ true → (kindBefore t r ≡ OUT → ⊥) → Broken t number r fault k body
 
 -- ---- that they are told
 
@@ -251,8 +251,8 @@ stands-says k s n =
     out [] x e o n = absurd (n (rw o))
     out (l ∷ s) x e o n = inner-out (rw o) o refl
 
-sight-says : (t : List ℕ) (r v : ℕ) → (sight t r v ≡ 0 → ⊥) → Hidden t r v (sight t r v)
-unfolding sight
+sight-says : (t : List ℕ) (r v : ℕ) → (sight t r v ≡ 0 → ⊥) → Hidden t r v (sight t r v) (hiddenBody t (sight t r v) v)
+unfolding sight hiddenBody
 sight-says t r v n =
     elim (decLt v r) [
       | no l ↦ later (rw (le-ltb v r (omega arith))) (omega arith)
@@ -263,11 +263,17 @@ sight-says t r v n =
     ]
   where
     loops : (c d e : Bool) → v < r → kindOf t v ≤ NEXT → bodyOpen (size t) (home t v) (readStack t r) ≡ c → endPassed t r v ≡ d → bodyOpen (size t) (home t v) (stackAt t r) ≡ e
-        → Hidden t r v (sight t r v)
+        → Hidden t r v (sight t r v) (hiddenBody t (sight t r v) v)
     loops true true e l q ec ed ee = absurd (n (rw (lt-ltb v r l, le-leb (kindOf t v) NEXT q, ec, ed)))
-    loops true false e l q ec ed ee = unended (rw (lt-ltb v r l, le-leb (kindOf t v) NEXT q, ec, ed)) l ed
-    loops false d true l q ec ed ee = entered (rw (lt-ltb v r l, le-leb (kindOf t v) NEXT q, ec, ee)) l ec ee
-    loops false d false l q ec ed ee = closed (rw (lt-ltb v r l, le-leb (kindOf t v) NEXT q, ec, ee)) l ee
+    loops true false e l q ec ed ee = let f : sight t r v ≡ 5 = rw (lt-ltb v r l, le-leb (kindOf t v) NEXT q, ec, ed) in unended f l (rw f) ed
+    loops false d true l q ec ed ee =
+        let f : sight t r v ≡ 4 = rw (lt-ltb v r l, le-leb (kindOf t v) NEXT q, ec, ee) in
+        let h : hiddenBody t (sight t r v) v ≡ home t v = rw f in
+        entered f l h (rw h ec) (rw h ee)
+    loops false d false l q ec ed ee =
+        let f : sight t r v ≡ 3 = rw (lt-ltb v r l, le-leb (kindOf t v) NEXT q, ec, ee) in
+        let h : hiddenBody t (sight t r v) v ≡ home t v = rw f in
+        closed f l h (rw h ee)
 
 -- the word that is told fails its test
 first-fails : (p : ℕ → Bool) (m k : ℕ) → (firstFrom p m k ≡ 0 → ⊥) → (p (firstFrom p m k) ≡ false) × (k ≤ firstFrom p m k) × (firstFrom p m k < k + m)
@@ -284,7 +290,7 @@ first-fails p (suc m) k n = step (p k) refl (first-fails p m (k + 1)) n
 fails : {b : Bool} {x : ℕ} → b ≡ eqb x 0 → b ≡ false → x ≡ 0 → ⊥
 fails {b} {x} e f = eqb-false x 0 (sym e ∙ f)
 
-length-says : (t : List ℕ) → lengthRight t ≡ false → Broken t LENGTH 0 (lengthFault t) 0
+length-says : (t : List ℕ) → lengthRight t ≡ false → Broken t LENGTH 0 (lengthFault t) 0 0
 unfolding lengthRight lengthFault
 length-says t f =
     elim (ℕ-discrete (length t % 6) 0) [
@@ -296,13 +302,13 @@ length-says t f =
       ]
     ]
 
-spare-says : (t : List ℕ) (r : ℕ) → spareRight t r ≡ false → Broken t SPARE r 0 (spareWord t r)
+spare-says : (t : List ℕ) (r : ℕ) → spareRight t r ≡ false → Broken t SPARE r 0 (spareWord t r) 0
 unfolding spareWord
 spare-says t r f =
     let h = first-fails (isZero t r) (5 - usedWords (kindOf t r)) (usedWords (kindOf t r) + 1) (fails (spare-told t r) f) in
     spare-word refl (omega arith) (omega arith) (eqb-false _ 0 (h .0))
 
-code-says : (t : List ℕ) (r : ℕ) → codeRight t r ≡ false → Broken t CODE r 0 (codeWord t r)
+code-says : (t : List ℕ) (r : ℕ) → codeRight t r ≡ false → Broken t CODE r 0 (codeWord t r) 0
 unfolding codeWord
 code-says t r f = let n = fails {x = codeWord t r} (code-told t r) f in
     elim (ℕ-discrete (kindOf t r) OP) [
@@ -323,57 +329,57 @@ code-says t r f = let n = fails {x = codeWord t r} (code-told t r) f in
       ]
     ]
 
-place-says : (t : List ℕ) (r : ℕ) → placeRight t r ≡ false → Broken t PLACE r (placeFault t r) 0
+place-says : (t : List ℕ) (r : ℕ) → placeRight t r ≡ false → Broken t PLACE r (placeFault t r) 0 (bodyOf t r)
 unfolding placeFault
 place-says t r f = let n = fails {x = placeFault t r} (place-told t r) f in
     elim (ℕ-discrete (followsFault (kindBefore t r) (kindOf t r)) 0) [
       | yes z ↦ let e : placeFault t r ≡ standsFault (kindOf t r) (stackAt t r) = rw (eq-eqb _ 0 z) in
-          rw e (place-among refl (stands-says (kindOf t r) (stackAt t r) (λ q. n (e ∙ q))))
+          rw e (place-among refl refl (stands-says (kindOf t r) (stackAt t r) (λ q. n (e ∙ q))))
       | no z ↦ let e : placeFault t r ≡ followsFault (kindBefore t r) (kindOf t r) = rw (ne-eqb _ 0 z) in
           rw e (place-behind refl (follows-says (kindBefore t r) (kindOf t r) z))
     ]
 
-depth-says : (t : List ℕ) (r : ℕ) → depthRight t r ≡ false → Broken t DEPTH r 0 0
+depth-says : (t : List ℕ) (r : ℕ) → depthRight t r ≡ false → Broken t DEPTH r 0 0 (bodyOf t r)
 unfolding depthRight
 depth-says t r f =
     elim (ℕ-discrete (kindOf t r) FOR) [
-      | yes x ↦ nine-deep refl x (ltb-false (length (stackAt t r)) 8 (rw (eq-eqb (kindOf t r) FOR x) at f))
+      | yes x ↦ nine-deep refl refl x (ltb-false (length (stackAt t r)) 8 (rw (eq-eqb (kindOf t r) FOR x) at f))
       | no x ↦ let z : true ≡ false = rw (ne-eqb (kindOf t r) FOR x) at f in let y : _≡_ {A = ℕ} 0 1 = ap (λ b. cond b 0 1) z in absurd (omega arith)
     ]
 
-name-says : (t : List ℕ) (r : ℕ) → namesRight t r ≡ false → Broken t NAME r (sight t r (word t r (hiddenWord t r))) (hiddenWord t r)
+name-says : (t : List ℕ) (r : ℕ) → namesRight t r ≡ false → Broken t NAME r (sight t r (word t r (hiddenWord t r))) (hiddenWord t r) (hiddenBody t (sight t r (word t r (hiddenWord t r))) (word t r (hiddenWord t r)))
 unfolding hiddenWord
 name-says t r f =
     let h = first-fails (isSeen t r) (operandCount (kindOf t r)) (firstOperand (kindOf t r)) (fails (names-told t r) f) in
     hidden-name refl (h .1, h .2) (sight-says t r _ (eqb-false _ 0 (h .0)))
 
-type-says : (t : List ℕ) (r : ℕ) → typesRight t r ≡ false → Broken t TYPE r (wantedSort (kindOf t r) (mistypedWord t r)) (mistypedWord t r)
+type-says : (t : List ℕ) (r : ℕ) → typesRight t r ≡ false → Broken t TYPE r (wantedSort (kindOf t r) (mistypedWord t r)) (mistypedWord t r) 0
 unfolding mistypedWord
 type-says t r f =
     let h = first-fails (isSorted t r) (operandCount (kindOf t r)) (firstOperand (kindOf t r)) (fails (types-told t r) f) in
     wrong-sort refl (h .1, h .2) refl (eqb-false _ _ (h .0))
 
-open-says : (t : List ℕ) → endRight t ≡ false → Broken t OPEN (size t) (cond (outside (stackAt t (size t))) 2 1) 0
+open-says : (t : List ℕ) → endRight t ≡ false → Broken t OPEN (size t) (cond (outside (stackAt t (size t))) 2 1) 0 (bodyOf t (size t))
 unfolding endRight
 open-says t f = go (outside (stackAt t (size t))) refl f
   where
-    go : (b : Bool) → outside (stackAt t (size t)) ≡ b → (b && eqb (kindBefore t (size t)) OUT) ≡ false → Broken t OPEN (size t) (cond b 2 1) 0
+    go : (b : Bool) → outside (stackAt t (size t)) ≡ b → (b && eqb (kindBefore t (size t)) OUT) ≡ false → Broken t OPEN (size t) (cond b 2 1) 0 (bodyOf t (size t))
     go true e f = no-out refl refl refl e (eqb-false _ OUT f)
-    go false e f = loop-open refl refl refl e
+    go false e f = loop-open refl refl refl refl e
 
 kind-says : (t : List ℕ) (r : ℕ) → kindRight t r ≡ false → OUT < kindOf t r
 unfolding kindRight
 kind-says t r f = leb-false (kindOf t r) OUT f
 
 -- a refused row
-row-says : (t : List ℕ) (r x : ℕ) → x ≡ rowRefusal t r → (x ≡ 0 → ⊥) → Broken t x r (explained t x r .fault) (explained t x r .word)
+row-says : (t : List ℕ) (r x : ℕ) → x ≡ rowRefusal t r → (x ≡ 0 → ⊥) → Broken t x r (explained t x r .fault) (explained t x r .word) (explained t x r .body)
 unfolding rowRefusal explained loopDetail nameDetail
 row-says t r x q n =
     go (kindRight t r) (spareRight t r) (codeRight t r) (placeRight t r) (depthRight t r) (namesRight t r) (typesRight t r) refl refl refl refl refl refl refl q
   where
     go : (b2 b3 b4 b5 b6 b7 b8 : Bool) → kindRight t r ≡ b2 → spareRight t r ≡ b3 → codeRight t r ≡ b4 → placeRight t r ≡ b5 → depthRight t r ≡ b6 → namesRight t r ≡ b7 → typesRight t r ≡ b8
         → x ≡ orElse b2 2 (orElse b3 3 (orElse b4 4 (orElse b5 5 (orElse b6 6 (orElse b7 7 (orElse b8 8 0))))))
-        → Broken t x r (explained t x r .fault) (explained t x r .word)
+        → Broken t x r (explained t x r .fault) (explained t x r .word) (explained t x r .body)
     go false b3 b4 b5 b6 b7 b8 e2 e3 e4 e5 e6 e7 e8 q = no-kind q (kind-says t r e2)
     go true false b4 b5 b6 b7 b8 e2 e3 e4 e5 e6 e7 e8 q = rw q (spare-says t r e3)
     go true true false b5 b6 b7 b8 e2 e3 e4 e5 e6 e7 e8 q = rw q (code-says t r e4)
@@ -391,11 +397,11 @@ row-of x = x .row
 
 -- the rows from r0 on: the first that is refused, or the table's end
 rows-say : (t : List ℕ) (m r0 number r : ℕ) → r0 + m ≡ size t → answer number r ≡ rowsFrom m t r0 → (number ≡ 0 → ⊥)
-    → Broken t number r (explained t number r .fault) (explained t number r .word)
+    → Broken t number r (explained t number r .fault) (explained t number r .word) (explained t number r .body)
 unfolding rowsFrom explained loopDetail
 rows-say t zero r0 number r s e n = last (endRight t) refl e
   where
-    last : (b : Bool) → endRight t ≡ b → answer number r ≡ cond b (answer 0 0) (answer OPEN r0) → Broken t number r (explained t number r .fault) (explained t number r .word)
+    last : (b : Bool) → endRight t ≡ b → answer number r ≡ cond b (answer 0 0) (answer OPEN r0) → Broken t number r (explained t number r .fault) (explained t number r .word) (explained t number r .body)
     last true h e = absurd (n (ap number-of e))
     last false h e = let k : number ≡ OPEN = ap number-of e in let i : r ≡ size t = ap row-of e ∙ (omega arith) in rw (k, i) (open-says t h)
 rows-say t (suc m) r0 number r s e n =
@@ -404,18 +410,18 @@ rows-say t (suc m) r0 number r s e n =
       | no z ↦ let f = rw (ne-eqb _ 0 z) at e in let i : r ≡ r0 = ap row-of f in rw i (row-says t r0 number (ap number-of f) n)
     ]
 
-table-says : (t : List ℕ) (number r : ℕ) → answer number r ≡ tableRefusal t → (number ≡ 0 → ⊥) → Broken t number r (explained t number r .fault) (explained t number r .word)
+table-says : (t : List ℕ) (number r : ℕ) → answer number r ≡ tableRefusal t → (number ≡ 0 → ⊥) → Broken t number r (explained t number r .fault) (explained t number r .word) (explained t number r .body)
 unfolding tableRefusal explained
 table-says t number r e n = go (lengthRight t) refl e
   where
-    go : (b : Bool) → lengthRight t ≡ b → answer number r ≡ cond b (rowsFrom (size t) t 0) (answer LENGTH 0) → Broken t number r (explained t number r .fault) (explained t number r .word)
+    go : (b : Bool) → lengthRight t ≡ b → answer number r ≡ cond b (rowsFrom (size t) t 0) (answer LENGTH 0) → Broken t number r (explained t number r .fault) (explained t number r .word) (explained t number r .body)
     go true h e = rows-say t (size t) 0 number r (omega arith) e n
     go false h e = let k : number ≡ LENGTH = ap number-of e in let i : r ≡ 0 = ap row-of e in rw (k, i) (length-says t h)
 
 -- WHAT A REFUSED TABLE IS TOLD IS A CLAUSE THAT IT BREAKS
-pub told-clause-is-broken : (t : List ℕ) (number r f w b a x : ℕ) → Told t number r f w b a x → (number ≡ 0 → ⊥) → Broken t number r f w
+pub told-clause-is-broken : (t : List ℕ) (number r f w b a x : ℕ) → Told t number r f w b a x → (number ≡ 0 → ⊥) → Broken t number r f w b
 told-clause-is-broken t number r f w b a x T n =
-    rw (ap (λ d. d .fault) (T .clause), ap (λ d. d .word) (T .clause)) (table-says t number r (T .refusal) n)
+    rw (ap (λ d. d .fault) (T .clause), ap (λ d. d .word) (T .clause), ap (λ d. d .body) (T .clause)) (table-says t number r (T .refusal) n)
 
 -- A TABLE IS TOLD IN ONE WAY
 pub one-telling : {t : List ℕ} {n r f w b a x m s g v c d y : ℕ} → Told t n r f w b a x → Told t m s g v c d y → (answer n r ≡ answer m s) × (detail f w b a x ≡ detail g v c d y)

@@ -97,8 +97,8 @@ mistypedWord t r = firstFrom (isSorted t r) (operandCount (kindOf t r)) (firstOp
 unfoldable pub lengthFault : List ℕ → ℕ
 lengthFault t = cond (eqb (length t % 6) 0) (cond (leb 1 (size t)) 3 2) 1
 
--- What is told beside number and row. `word` is 0 for the kind, 1 to 5 for a to e; `body` is a FOR row, or the row count for the outermost
--- body; `args` and `nexts` count those of the innermost open loop so far.
+-- What is told beside number and row. `word` is 0 for the kind, 1 to 5 for a to e; `body` is a FOR row, the row count for the outermost
+-- body, and 0 where no loop is told; `args` and `nexts` count those of the innermost open loop so far for PLACE, DEPTH and OPEN, else 0.
 pub record Detail : Type 0 where
   pub fault : ℕ
   pub word : ℕ

@@ -571,7 +571,8 @@ fn end_right(table: &[u32], d: usize, n: u32) -> bool
 }
 
 // What a check tells: a refusal's number and row, 0 and 0 where there is none, and which clause is broken. `word` is 0 for the kind, 1 to 5 for
-// a to e; `body` is the FOR row of the loop that matters, or the row count where no loop is open; `args` and `nexts` are that loop's so far.
+// a to e; `body` is the FOR row of the loop that matters, the row count where no loop is open, and 0 where no loop is told; `args` and `nexts` are
+// those of the innermost open loop for PLACE, DEPTH and OPEN, else 0.
 pub struct Clause {
     pub number: u32,
     pub row: u32,
