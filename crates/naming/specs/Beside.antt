@@ -4,6 +4,8 @@
 --   names-long            each node and each wire has its three words
 --   named-node            a node before forks has the name of its role
 --   named-wire            a wire before forks has its name
+--   named-output          the wires that the graph numbers as the outputs of a node before forks have the names of its outputs
+--   named-start           the wire of a start has its name
 --   named-fork            a FORK or DRAIN has the name of the wire that it takes, marked
 --   named-leg             both legs of a FORK have the name of the wire that it takes
 --   one-naming            two answers to the contract are one
@@ -14,17 +16,17 @@ use Prim.Native.Nat.{ℕ, zero, suc, _+_, _*_, _<_, _≤_}
 use mathlib.Core.Path.{_≡_, refl, sym, ap, _∙_, subst}
 use mathlib.Core.Logic.{_⊎_, inl, inr}
 use mathlib.Core.List.{List, [], _∷_, _++_}
-use mathlib.Core.Option.{some}
+use mathlib.Core.Option.{Option, none, some}
 use native.Mathlib.Omega.{arith}
 use borrow.Author.Tests.{le-leb}
 use lib.ListN.{length, getD, getElem?, length-append, List·getD-append}
 use lib.Seq.{getD-append-add}
-use Rattle.step.specs.Kinds.{Kind, FORK, DRAIN, outputs}
-use Rattle.graph.specs.Graph.{Node}
+use Rattle.step.specs.Kinds.{Kind, STREAM, GATE, CARRY, INVARIANT, SPLIT, FORK, DRAIN, OP, PICK, outputs, Output, out0, out1}
+use Rattle.graph.specs.Graph.{Node, outputPlace}
 use Rattle.lowered.specs.Gathered.{each}
 use Rattle.lowered.specs.Lists.{Among, in-range, none-some, elem-left, elem-right}
-use Rattle.lowered.specs.Roles.{Role, Wire, Use}
-use Rattle.lowered.specs.Lower.{roles, roleKind, starts, wires, users, drainNode, forkNode, forkRows, forkNodes, forkWires, allForkNodes, allForkWires, usersEach, allUsers, plainNodes, plainWires, roleNode, nodesFrom, forksFrom, wireSort, loweredNodes, nodeTotal, wireTotal}
+use Rattle.lowered.specs.Roles.{Role, Wire, start, output, Use}
+use Rattle.lowered.specs.Lower.{roles, roleKind, startRows, starts, outputsBy, roleOutputs, wires, users, drainNode, forkNode, forkRows, forkNodes, forkWires, allForkNodes, allForkWires, usersEach, allUsers, plainNodes, plainWires, roleNode, nodesFrom, forksFrom, wireSort, loweredNodes, nodeTotal, wireTotal}
 use Rattle.lowered.specs.Room.{hasRoom, refusedBy, checkAnswer}
 use Rattle.laid.specs.Indexed.{each-long, each-at}
 use Rattle.measuring.specs.Passed.{and-true}
@@ -116,13 +118,62 @@ elem-split [] ys k a h = inr (k, omega arith, h)
 elem-split (x ∷ xs) ys zero a h = inl h
 elem-split (x ∷ xs) ys (suc k) a h = elim (elem-split xs ys k a h) [ inl q ↦ inl q | inr q ↦ (let e = q .1 in inr (q .0, omega arith, q .2)) ]
 
+-- ---- outputs by place
+
+own-output : (n : Role) (k : ℕ) (o : Output) → outputPlace o < k → getElem? (outputsBy n k) (outputPlace o) ≡ some (output n o)
+own-output n zero o h = absurd (omega arith)
+own-output n (suc zero) out0 h = refl
+own-output n (suc zero) out1 h = absurd (omega arith)
+own-output n (suc (suc k)) out0 h = refl
+own-output n (suc (suc k)) out1 h = refl
+
+own-long : (n : Role) (κ : Kind) → length (outputsBy n (outputs κ)) ≡ outputs κ
+own-long n STREAM = refl
+own-long n GATE = refl
+own-long n CARRY = refl
+own-long n INVARIANT = refl
+own-long n SPLIT = refl
+own-long n FORK = refl
+own-long n DRAIN = refl
+own-long n OP = refl
+own-long n PICK = refl
+
+abbrev firstOf : Option Node → ℕ
+firstOf none = 0
+firstOf (some nd) = nd .first
+
+start-of : (rs : List ℕ) (j r : ℕ) → getElem? rs j ≡ some r → getElem? (each (λ r. start r ∷ []) rs) j ≡ some (start r)
+unfolding each
+start-of [] j r h = none-some r h
+start-of (q ∷ rs) zero r h = let e : q ≡ r = cc in ap (λ (x : ℕ). some (start x)) e
+start-of (q ∷ rs) (suc j) r h = start-of rs j r h
+
 module _ (t : List ℕ) where
   -- ---- before forks
 
-  node-of : (f : ℕ) (ns : List Role) (i : ℕ) (n : Role) → getElem? ns i ≡ some n → (g : ℕ) × (getElem? (nodesFrom t f ns) i ≡ some (roleNode t g n))
-  node-of f [] i n h = none-some n h
-  node-of f (m ∷ ns) zero n h = (f, (let e : m ≡ n = cc in ap (λ (x : Role). some (roleNode t f x)) e))
-  node-of f (m ∷ ns) (suc i) n h = node-of (f + outputs (roleKind t m)) ns i n h
+  -- role i of a list, where the outputs of those before it are d: its first output is d behind f, and there its outputs stand
+  output-of : (f : ℕ) (ns : List Role) (i : ℕ) (n : Role) → getElem? ns i ≡ some n
+      → (d : ℕ) × (getElem? (nodesFrom t f ns) i ≡ some (roleNode t (f + d) n)) × ((o : Output) → outputPlace o < outputs (roleKind t n) → getElem? (each (roleOutputs t) ns) (d + outputPlace o) ≡ some (output n o))
+  unfolding each
+  output-of f [] i n h = none-some n h
+  output-of f (m ∷ ns) zero n h =
+      let e : m ≡ n = cc in
+      let z : f ≡ f + 0 = omega arith in (
+        0,
+        ap (λ (x : Role). some (roleNode t f x)) e ∙ ap (λ (x : ℕ). some (roleNode t x n)) z,
+        λ o l. let c : 0 + outputPlace o ≡ outputPlace o = omega arith in
+            ap (getElem? (roleOutputs t m ++ each (roleOutputs t) ns)) c ∙ ap (λ (x : Role). getElem? (roleOutputs t x ++ each (roleOutputs t) ns) (outputPlace o)) e
+            ∙ elem-left (roleOutputs t n) (each (roleOutputs t) ns) (outputPlace o) (output n o) (own-output n (outputs (roleKind t n)) o l),
+      )
+  output-of f (m ∷ ns) (suc i) n h =
+      let r = output-of (f + outputs (roleKind t m)) ns i n h in
+      let k = own-long m (roleKind t m) in
+      let z : f + outputs (roleKind t m) + r .0 ≡ f + (outputs (roleKind t m) + r .0) = omega arith in (
+        outputs (roleKind t m) + r .0,
+        r .1 ∙ ap (λ (x : ℕ). some (roleNode t x n)) z,
+        λ o l. let c : outputs (roleKind t m) + r .0 + outputPlace o ≡ length (roleOutputs t m) + (r .0 + outputPlace o) = omega arith in
+            ap (getElem? (roleOutputs t m ++ each (roleOutputs t) ns)) c ∙ elem-right (roleOutputs t m) (each (roleOutputs t) ns) (r .0 + outputPlace o) ∙ r .2 o l,
+      )
 
   -- A NODE BEFORE FORKS HAS THE NAME OF ITS ROLE: node i of the graph is the node of role i, and name i is that role's
   pub named-node : (i : ℕ) (n : Role) → getElem? (roles t) i ≡ some n → (nameAt (nodeNames t) i ≡ roleName n) × ((first : ℕ) × (getElem? (loweredNodes t) i ≡ some (roleNode t first n)))
@@ -130,9 +181,9 @@ module _ (t : List ℕ) where
   named-node i n h =
       let r = in-range (roles t) i n h in
       let l = each-long roleName 3 (λ n. refl) (roles t) in
-      let m = node-of (length (starts t)) (roles t) i n h in (
+      let m = output-of (length (starts t)) (roles t) i n h in (
         name-left (each roleName (roles t)) (each (λ w. forkNames w (users t w)) (wires t)) i (omega arith) ∙ name-each roleName (λ n. refl) (roles t) i n h,
-        (m .0, elem-left (nodesFrom t (length (starts t)) (roles t)) (forksFrom t 0 (wires t) (plainWires t)) i (roleNode t (m .0) n) (m .1)),
+        (length (starts t) + m .0, elem-left (nodesFrom t (length (starts t)) (roles t)) (forksFrom t 0 (wires t) (plainWires t)) i (roleNode t (length (starts t) + m .0) n) (m .1)),
       )
 
   -- A WIRE BEFORE FORKS HAS ITS NAME
@@ -142,6 +193,35 @@ module _ (t : List ℕ) where
       let r = in-range (wires t) k w h in
       let l = each-long wireName 3 (λ w. refl) (wires t) in
       name-left (each wireName (wires t)) (each (λ w. legNames w (users t w)) (wires t)) k (omega arith) ∙ name-each wireName (λ w. refl) (wires t) k w h
+
+  output-at : (i first : ℕ) (n : Role) → getElem? (roles t) i ≡ some n → getElem? (loweredNodes t) i ≡ some (roleNode t first n)
+      → (o : Output) → outputPlace o < outputs (roleKind t n) → getElem? (wires t) (first + outputPlace o) ≡ some (output n o)
+  unfolding loweredNodes wires
+  output-at i first n h g o l =
+      let r = output-of (length (starts t)) (roles t) i n h in
+      let p = elem-left (nodesFrom t (length (starts t)) (roles t)) (forksFrom t 0 (wires t) (plainWires t)) i (roleNode t (length (starts t) + r .0) n) (r .1) in
+      let e : first ≡ length (starts t) + r .0 = ap firstOf (sym g ∙ p) in
+      let c : first + outputPlace o ≡ length (starts t) + (r .0 + outputPlace o) = omega arith in
+      ap (getElem? (starts t ++ each (roleOutputs t) (roles t))) c ∙ elem-right (starts t) (each (roleOutputs t) (roles t)) (r .0 + outputPlace o) ∙ r .2 o l
+
+  -- THE OUTPUTS OF A NODE BEFORE FORKS HAVE THEIR NAMES: node i of the graph is that of role n and its first output is wire `first`; then the wires
+  -- from there on are named as the outputs of n
+  pub named-output : (i first : ℕ) (n : Role) → getElem? (roles t) i ≡ some n → getElem? (loweredNodes t) i ≡ some (roleNode t first n)
+      → (1 ≤ outputs (roleKind t n) → nameAt (wireNames t) first ≡ wireName (output n out0)) × (outputs (roleKind t n) ≡ 2 → nameAt (wireNames t) (suc first) ≡ wireName (output n out1))
+  named-output i first n h g =
+      let z : first ≡ first + 0 = omega arith in
+      let y : suc first ≡ first + 1 = omega arith in (
+        λ l. ap (nameAt (wireNames t)) z ∙ named-wire (first + 0) (output n out0) (output-at i first n h g out0 (omega arith)),
+        λ l. ap (nameAt (wireNames t)) y ∙ named-wire (first + 1) (output n out1) (output-at i first n h g out1 (omega arith)),
+      )
+
+  start-at : (j r : ℕ) → getElem? (startRows t) j ≡ some r → getElem? (wires t) j ≡ some (start r)
+  unfolding wires starts
+  start-at j r h = elem-left (each (λ r. start r ∷ []) (startRows t)) (each (roleOutputs t) (roles t)) j (start r) (start-of (startRows t) j r h)
+
+  -- THE WIRE OF A START HAS ITS NAME: start j is row r, and wire j is named as that row's
+  pub named-start : (j r : ℕ) → getElem? (startRows t) j ≡ some r → nameAt (wireNames t) j ≡ wireName (start r)
+  named-start j r h = named-wire j (start r) (start-at j r h)
 
   -- ---- forks
 
