@@ -789,7 +789,7 @@ def rehearsed(g, words, allowance, names=(), wire_names=()):
     if stalled: out.append(f'its step is the word 0 on wire {nodes[node].ins[1]}{wire_told(nodes[node].ins[1], wire_names)}')
     if end == 3:
         standing = sum(t is not None for t in state.tokens)
-        out.append(f'the allowance is spent and the results are not final; tokens on wires: {standing}; try a larger --allowance')
+        out.append(f'the allowance is spent and the results are not final; tokens on wires: {standing}; a larger --allowance helps where an index moves towards its bound')
         for i, (node, (phase, index, step, bound)) in enumerate(zip(nodes, state.records)):
             if node.kind == STREAM and phase == 1:
                 test = '< <= > >= !='.split()[node.code % 5]
