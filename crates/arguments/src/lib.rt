@@ -4,68 +4,9 @@
 ghost use Prim.Native.Nat.{_≤_, _<_};
 ghost use lib.ListN.{length};
 
-// Arguments in a text.
-
-// How many arguments a text has.
-pub fn count(line: &[u8]) -> usize
-    ensures { λ r. ⌜ r ≤ length (now (line .entry)) ⌝ }
-{
-    let mut n: usize = 0;
-    let mut i: usize = 0;
-    while i < line.len() {
-        if line[i] == 0 {
-            n += 1;
-        }
-        i += 1;
-    }
-    n
-}
-
-// Where an argument that starts at `from` ends.
-fn end_of(line: &[u8], from: usize) -> usize
-    requires { ⌜ from ≤ length (now line) ⌝ }
-    ensures { λ r. ⌜ (from ≤ r) × (r ≤ length (now (line .entry))) ⌝ }
-{
-    let mut i = from;
-    while i < line.len() {
-        if line[i] == 0 {
-            return i;
-        }
-        i += 1;
-    }
-    i
-}
-
-// Where the argument behind the one that starts at `from` starts.
-fn behind(line: &[u8], from: usize) -> usize
-    requires { ⌜ from ≤ length (now line) ⌝ }
-    ensures { λ r. ⌜ r ≤ length (now (line .entry)) ⌝ }
-{
-    let e = end_of(line, from);
-    if e < line.len() {
-        return e + 1;
-    }
-    e
-}
-
-fn least(a: usize, b: usize) -> usize {
-    if a < b {
-        return a;
-    }
-    b
-}
-
 // Argument k, counted from 0; past the last, nothing.
 pub fn argument(line: &[u8], k: usize) -> &[u8] {
-    let most = least(k, line.len());
-    let mut at: usize = 0;
-    let mut i: usize = 0;
-    while i < most {
-        at = behind(line, at);
-        i += 1;
-    }
-    let e = end_of(line, at);
-    &line[at..e]
+    text::part_by(line, k, 0)
 }
 
 // Whether the usage is asked for: by no argument, or by --help in place of a command or behind one.
@@ -303,7 +244,7 @@ fn take(given: Asked, k: usize, arg: &[u8], inputs: &mut [u32]) -> Asked
 pub fn read(line: &[u8], inputs: &mut [u32]) -> Asked
     ensures { λ r. ⌜ r .inputs ≤ length (now (inputs .entry)) ⌝ }
 {
-    let last = count(line);
+    let last = text::marks(line, 0);
     let mut asked = nothing();
     let mut k: usize = 1;
     while k < last {

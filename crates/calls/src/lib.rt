@@ -378,7 +378,7 @@ pub fn answer(line: &[u8], out: &mut [u8]) -> usize
         return error(NAME, out);
     }
     let rest = &line[e..];
-    if text::semicolons(rest) != lists_of(call) {
+    if text::marks(rest, b';') != lists_of(call) {
         return error(LISTS, out);
     }
     call_line(call, rest, out)

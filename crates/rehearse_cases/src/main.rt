@@ -49,27 +49,12 @@ fn try_line(line: &[u8]) {
     obey(line);
 }
 
-// Where the line that starts at `from` ends.
-fn end_of(text: &[u8], from: usize) -> usize
-    requires { ⌜ from ≤ length (now text) ⌝ }
-    ensures { λ r. ⌜ (from ≤ r) × (r ≤ length (now (text .entry))) ⌝ }
-{
-    let mut i = from;
-    while i < text.len() {
-        if text[i] == b'\n' {
-            return i;
-        }
-        i += 1;
-    }
-    i
-}
-
 // Tries the line that starts at `from`; where the next one starts.
 fn try_one(text: &[u8], from: usize) -> usize
     requires { ⌜ from < length (now text) ⌝ }
     ensures { λ r. ⌜ (from < r) × (r ≤ length (now (text .entry))) ⌝ }
 {
-    let e = end_of(text, from);
+    let e = text::end_of(text, from, b'\n');
     try_line(&text[from..e]);
     if e < text.len() {
         return e + 1;

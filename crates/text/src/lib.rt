@@ -313,15 +313,16 @@ pub fn put_words(out: &mut [u8], at: usize, words: &[u32]) -> usize
     n
 }
 
-// Parts of a line, with a semicolon behind each but the last.
+// Parts of a line, with a mark behind each but the last.
 
-pub fn semicolons(line: &[u8]) -> usize
+// How often a mark stands in a line.
+pub fn marks(line: &[u8], mark: u8) -> usize
     ensures { λ r. ⌜ r ≤ length (now (line .entry)) ⌝ }
 {
     let mut n: usize = 0;
     let mut i: usize = 0;
     while i < line.len() {
-        if line[i] == b';' {
+        if line[i] == mark {
             n += 1;
         }
         i += 1;
@@ -330,13 +331,13 @@ pub fn semicolons(line: &[u8]) -> usize
 }
 
 // Where a part that starts at `from` ends.
-fn end_of(line: &[u8], from: usize) -> usize
+pub fn end_of(line: &[u8], from: usize, mark: u8) -> usize
     requires { ⌜ from ≤ length (now line) ⌝ }
     ensures { λ r. ⌜ (from ≤ r) × (r ≤ length (now (line .entry))) ⌝ }
 {
     let mut i = from;
     while i < line.len() {
-        if line[i] == b';' {
+        if line[i] == mark {
             return i;
         }
         i += 1;
@@ -345,11 +346,11 @@ fn end_of(line: &[u8], from: usize) -> usize
 }
 
 // Where the part behind the one that starts at `from` starts.
-fn behind(line: &[u8], from: usize) -> usize
+fn behind(line: &[u8], from: usize, mark: u8) -> usize
     requires { ⌜ from ≤ length (now line) ⌝ }
     ensures { λ r. ⌜ r ≤ length (now (line .entry)) ⌝ }
 {
-    let e = end_of(line, from);
+    let e = end_of(line, from, mark);
     if e < line.len() {
         return e + 1;
     }
@@ -364,14 +365,19 @@ fn least(a: usize, b: usize) -> usize {
 }
 
 // Part k, counted from 0; past the last part, nothing. No line has more parts behind its first than letters.
-pub fn part(line: &[u8], k: usize) -> &[u8] {
+pub fn part_by(line: &[u8], k: usize, mark: u8) -> &[u8] {
     let most = least(k, line.len());
     let mut at: usize = 0;
     let mut i: usize = 0;
     while i < most {
-        at = behind(line, at);
+        at = behind(line, at, mark);
         i += 1;
     }
-    let e = end_of(line, at);
+    let e = end_of(line, at, mark);
     &line[at..e]
+}
+
+// Part k between semicolons.
+pub fn part(line: &[u8], k: usize) -> &[u8] {
+    part_by(line, k, b';')
 }

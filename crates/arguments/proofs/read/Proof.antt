@@ -12,8 +12,8 @@ Inv-loop line inputs₀ last asked₀ k₀ inputs asked k = (asked .inputs ≤ l
 abbrev μ-loop : tie.MeasureT-loop
 μ-loop line inputs₀ last asked₀ k₀ inputs asked k = last - k
 
-count-requires : tie.Need-count-requires Inv-loop μ-loop
-count-requires c κs = search needs
+marks-requires : tie.Need-marks-requires Inv-loop μ-loop
+marks-requires c κs = search needs
 
 nothing-requires : tie.Need-nothing-requires Inv-loop μ-loop
 nothing-requires c κs = search needs
@@ -51,7 +51,7 @@ read-spec =
     (tie.spec
     Inv-loop
     μ-loop
-    count-requires
+    marks-requires
     nothing-requires
     loop-holds
     argument-requires

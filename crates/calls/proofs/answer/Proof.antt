@@ -33,8 +33,8 @@ part-rest-start c = search needs
 part-rest-end : tie.Need-part-rest-end
 part-rest-end c = search needs
 
-semicolons-requires : tie.Need-semicolons-requires
-semicolons-requires c κs = search needs
+marks-requires : tie.Need-marks-requires
+marks-requires c κs = search needs
 
 lists-of-requires : tie.Need-lists-of-requires
 lists-of-requires c κs = search needs
@@ -70,7 +70,7 @@ answer-spec =
     sub-rest
     part-rest-start
     part-rest-end
-    semicolons-requires
+    marks-requires
     lists-of-requires
     error-requires-2
     same-length-2

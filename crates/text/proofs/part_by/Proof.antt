@@ -1,15 +1,15 @@
--- `text::part` is safe and ends: each start lies within the line. Assumes nothing.
+-- `text::part_by` is safe and ends: each start lies within the line. Assumes nothing.
 use Prim.Native.Nat.{_≤_, _-_}
 use borrow.Author.Needs.{needs}
 use lib.ListN.{length}
-use Rattle.text.proofs.part.Statement.{statement}
-use Rattle.text.proofs.part.Tie as tie
+use Rattle.text.proofs.part_by.Statement.{statement}
+use Rattle.text.proofs.part_by.Tie as tie
 
 abbrev Inv-loop : tie.InvT-loop
-Inv-loop line k most at₀ i₀ at i = (at ≤ length line) × (i ≤ most)
+Inv-loop line k mark most at₀ i₀ at i = (at ≤ length line) × (i ≤ most)
 
 abbrev μ-loop : tie.MeasureT-loop
-μ-loop line k most at₀ i₀ at i = most - i
+μ-loop line k mark most at₀ i₀ at i = most - i
 
 least-requires : tie.Need-least-requires Inv-loop μ-loop
 least-requires c κs = search needs
@@ -44,8 +44,8 @@ part-result-end c = search needs
 returns : tie.Need-returns Inv-loop μ-loop
 returns c = search needs
 
-pub part-spec : {M : Type 1} → statement M
-part-spec =
+pub part-by-spec : {M : Type 1} → statement M
+part-by-spec =
     tie.close
     (tie.spec
     Inv-loop

@@ -1,17 +1,17 @@
--- `text::semicolons` meets its contract: no more of them than letters passed. Assumes nothing.
+-- `text::marks` meets its contract: no more of them than letters passed. Assumes nothing.
 use Prim.Native.Nat.{_≤_, _-_}
 use mathlib.Core.Logic.{⊎-elim}
 use native.Mathlib.Omega.{arith}
 use borrow.Author.Needs.{needs}
 use lib.ListN.{length}
-use Rattle.text.proofs.semicolons.Statement.{statement}
-use Rattle.text.proofs.semicolons.Tie as tie
+use Rattle.text.proofs.marks.Statement.{statement}
+use Rattle.text.proofs.marks.Tie as tie
 
 abbrev Inv-loop : tie.InvT-loop
-Inv-loop line n₀ i₀ n i = (i ≤ length line) × (n ≤ i)
+Inv-loop line mark n₀ i₀ n i = (i ≤ length line) × (n ≤ i)
 
 abbrev μ-loop : tie.MeasureT-loop
-μ-loop line n₀ i₀ n i = length line - i
+μ-loop line mark n₀ i₀ n i = length line - i
 
 loop-holds : tie.Need-loop-holds Inv-loop μ-loop
 loop-holds c = search needs
@@ -34,8 +34,8 @@ loop-again c = ⊎-elim (λ w. omega arith) (λ w. omega arith) (c .if1 .came)
 returns : tie.Need-returns Inv-loop μ-loop
 returns c = search needs
 
-pub semicolons-spec : {M : Type 1} → statement M
-semicolons-spec =
+pub marks-spec : {M : Type 1} → statement M
+marks-spec =
     tie.close
     (tie.spec
     Inv-loop
