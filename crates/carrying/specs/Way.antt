@@ -1,30 +1,23 @@
 -- The way of a value out of the bodies that use it: loop by loop going outward, up to its home.
 --
---   rank                      falls along the way
 --   is-loop, below            a body on the way that is not home is a loop
---   way-on, rank-falls        the body around it is on the way, and its rank is less
+--   way-on, less-deep         the body around it is on the way, and lies less deep
+--   nine-at-most              no body on the way lies deeper than 8
 --
 -- Assumes nothing.
-use Prim.Native.Nat.{ℕ, suc, _<_}
-use mathlib.Core.Path.{_≡_, sym, _∙_, subst}
+use Prim.Native.Nat.{ℕ, _<_}
+use mathlib.Core.Path.{_≡_, sym, ap, _∙_, subst}
 use mathlib.Core.Logic.{_≢_, _⊎_, inl, inr}
-use mathlib.Core.Bool.{cond}
 use mathlib.Core.List.{List}
 use native.Mathlib.Omega.{arith}
-use native.Mathlib.Decide.{ℕ-discrete}
-use borrow.Author.Tests.{eq-eqb, ne-eqb}
-use lib.Dec.{eqb}
 use lib.ListN.{getD}
 use Rattle.table.specs.Rows.{kindOf, size}
 use Rattle.table.specs.Scan.{bodyOf, home}
+use Rattle.structure.specs.Depth.{depth, depth-falls, eight-at-most}
 use Rattle.structure.specs.Spans.{Encloses}
 use Rattle.structure.specs.Structure.{Structure, right-table-has-structure}
 use Rattle.laid.specs.Scanned.{out-of, at-the-rim, around-body}
 use Rattle.carrying.specs.Kept.{Passing, Bodies, OnTheWay}
-
--- the nesting falls: the outermost body is 0, a loop its FOR row and one
-abbrev pub rank : ℕ → ℕ → ℕ
-rank n b = cond (eqb b n) 0 (suc b)
 
 module _ (t : List ℕ) (n : ℕ) (p : Passing t n) where
   abbrev S : Structure t
@@ -47,24 +40,12 @@ module _ (t : List ℕ) (n : ℕ) (p : Passing t n) where
   pub below : (v h b : ℕ) → h ≡ home t v → b ≢ h → OnTheWay t v b → b < n
   below v h b e d w = let l = is-loop v h b e d w .0 in let q = p .rows in omega arith
 
-  pub rank-falls : (v h b x : ℕ) → h ≡ home t v → b ≢ h → OnTheWay t v b → x ≡ bodyOf t b → rank n x < rank n b
-  rank-falls v h b x e d w q = go (ℕ-discrete x n)
-    where
-      b-in : b < n
-      b-in = below v h b e d w
+  -- The body around lies less deep, and none deeper than 8: a call for each body on the way is at most nine calls deep.
+  pub less-deep : (m v h b x : ℕ) → depth t b ≡ m → h ≡ home t v → b ≢ h → OnTheWay t v b → x ≡ bodyOf t b → depth t x < m
+  less-deep m v h b x r e d w q = let f = depth-falls t (p .right) b (is-loop v h b e d w .0) in let y : depth t x ≡ depth t (bodyOf t b) = ap (depth t) q in omega arith
 
-      lower-loop : (b < size t) × (kindOf t b ≡ 4) → x ≢ n → x < b
-      lower-loop l m = let r = p .rows in let f = l .0 in let z = S .body-loop b (omega arith) (λ y. m (q ∙ y ∙ sym r)) .low in omega arith
-
-      high : b < n → rank n b ≡ suc b
-      high l = rw (ne-eqb b n (λ z. omega arith))
-
-      go : Dec (x ≡ n) → rank n x < rank n b
-      go (yes z) = rw (eq-eqb x n z, high b-in) (omega arith)
-      go (no z) = let m = lower-loop (is-loop v h b e d w) z in rw (ne-eqb x n z, high b-in) (omega arith)
-
-  pub rank-below : (m v h b x : ℕ) → rank n b ≡ m → h ≡ home t v → b ≢ h → OnTheWay t v b → x ≡ bodyOf t b → rank n x < m
-  rank-below m v h b x r e d w q = subst (λ (k : ℕ). rank n x < k) r (rank-falls v h b x e d w q)
+  pub nine-at-most : (v b : ℕ) → OnTheWay t v b → depth t b < 9
+  nine-at-most v b w = let z = eight-at-most t (p .right) b (w .body) in omega arith
 
   -- the body around, as noted
   pub noted : (b x : ℕ) (bodies : List ℕ) → Bodies t n bodies → b < n → x ≡ getD bodies b 0 → x ≡ bodyOf t b

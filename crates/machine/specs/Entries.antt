@@ -4,11 +4,12 @@
 --   stateRefusal                      11 to 15, then 17 for a state that is not legal
 --   loadRefusal, loadState            the number that load answers, and the state after it
 --   fireRefusal, fireAnswer, fireState
---   firedNumber, firedRow, firedFlag  the number for each case of the answer of fire; fire-number, fire-flag: of the answer itself
+--   firedNumber, firedFlag            the number for each case of the answer of fire; fire-number, fire-flag: of the answer itself
 --   FireAnswer, LoadAnswer            what fire and load promise
 --   Fit, Given                        what the inner functions rely on
 --
--- 'It leaves every lent word as it was': each of the states is the lent one where its number is not 0.
+-- 'It leaves every lent word as it was': each of the states is the lent one where its number is not 0. 'Its row is 0 for 11 to 18', so the entries of
+-- graphs answer a number alone, and say no row.
 -- Assumes nothing.
 use Prim.Native.Nat.{ℕ}
 use mathlib.Core.Path.{_≡_, refl, sym, ap, _∙_}
@@ -58,10 +59,6 @@ firedNumber (Refused n) = n
 firedNumber NotReady = 0
 firedNumber Done = 0
 
--- 'its row is 0 for 11 to 18'
-abbrev pub firedRow : Fired → ℕ
-firedRow r = 0
-
 abbrev pub firedFlag : Fired → Bool
 firedFlag (Refused n) = false
 firedFlag NotReady = false
@@ -87,13 +84,12 @@ fire-flag g s i = chosen (eqb (fireRefusal g s i) 0) (fireRefusal g s i) (isRead
 pub record FireAnswer (g s : List ℕ) (i : ℕ) (r : Fired) (exit : List ℕ) : Type 0 where
   pub answer : r ≡ fireAnswer g s i
   pub number : firedNumber r ≡ fireRefusal g s i
-  pub row : firedRow r ≡ 0
   pub fired : firedFlag r ≡ pick (eqb (fireRefusal g s i) 0) (isReady (fire (netOf g) i s)) false
   pub state : exit ≡ fireState g s i
 
 pub fire-answers : (g s : List ℕ) (i : ℕ) (r : Fired) (exit : List ℕ) → r ≡ fireAnswer g s i → exit ≡ fireState g s i → FireAnswer g s i r exit
 fire-answers g s i r exit e h =
-    record { answer = e; number = ap firedNumber e ∙ fire-number g s i; row = refl; fired = ap firedFlag e ∙ fire-flag g s i; state = h }
+    record { answer = e; number = ap firedNumber e ∙ fire-number g s i; fired = ap firedFlag e ∙ fire-flag g s i; state = h }
 
 -- what load promises of its answer and of the lent state
 pub record LoadAnswer (g inputs s : List ℕ) (r : ℕ) (exit : List ℕ) : Type 0 where

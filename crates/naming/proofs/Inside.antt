@@ -23,6 +23,7 @@ use Rattle.table.specs.Rows.{kindOf, size, operandCount}
 use Rattle.table.specs.Scan.{Loop, inner, stackAt, bodyOf, reads, home, holds}
 use Rattle.table.specs.Bodies.{operand}
 use Rattle.table.specs.Right.{TableRight}
+use Rattle.structure.specs.Depth.{depth, depth-falls}
 use Rattle.structure.specs.Loops.{innermost}
 use Rattle.structure.specs.Operands.{home-here}
 use Rattle.structure.specs.Order.{nothing-left-open}
@@ -31,7 +32,6 @@ use Rattle.lowered.specs.Gathered.{some?}
 use Rattle.lowered.specs.Sources.{inside, names, carried}
 use Rattle.laid.specs.Scanned.{around-body, reads-body-or-rim}
 use Rattle.carrying.specs.Kept.{Passing, Bodies}
-use Rattle.carrying.specs.Way.{rank}
 use Rattle.naming.specs.Carried.{Body, Marked, namedIn, Marks}
 
 at-rim : (t : List ℕ) → stackAt t (size t) ≡ [] → bodyOf t (size t) ≡ size t
@@ -79,20 +79,13 @@ module _ (t : List ℕ) (n : ℕ) (P : Passing t n) where
       let e : y ≡ bodyOf t x = h ∙ B .body x (omega arith) in
       (subst (Body t) (sym e) (around-body t S x (q .0)), e, omega arith)
 
-  -- and its rank is less
-  pub outward-less : (x y : ℕ) → Body t x → x ≢ n → y ≡ bodyOf t x → rank n y < rank n x
-  outward-less x y b d e = go b (ℕ-discrete y n)
+  -- and lies less deep
+  pub outward-less : (x y : ℕ) → Body t x → x ≢ n → y ≡ bodyOf t x → depth t y < depth t x
+  outward-less x y b d e = go b
     where
-      high : rank n x ≡ suc x
-      high = rw (ne-eqb x n d)
-
-      go : Body t x → Dec (y ≡ n) → rank n y < rank n x
-      go (inl q) z = absurd (d (q ∙ sym (P .rows)))
-      go (inr q) (yes z) = rw (eq-eqb y n z, high) (omega arith)
-      go (inr q) (no z) =
-          let l = q .0 in
-          let m = S .body-loop x (omega arith) (λ w. z (e ∙ w ∙ sym (P .rows))) .low in
-          rw (ne-eqb y n z, high) (omega arith)
+      go : Body t x → depth t y < depth t x
+      go (inl q) = absurd (d (q ∙ sym (P .rows)))
+      go (inr q) = let f = depth-falls t (P .right) x (q .0) in let z : depth t y ≡ depth t (bodyOf t x) = ap (depth t) e in omega arith
 
   pub home-is-body : (v : ℕ) → v < n → Body t (home t v)
   home-is-body v l = go (ℕ-discrete (kindOf t v) 4) (ℕ-discrete (kindOf t v) 6) (decLe (kindOf t v) 1)

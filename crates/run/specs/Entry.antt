@@ -3,7 +3,7 @@
 --   orderBelow                        no number of the order list is past the last node
 --   runRefusal, runAt, runState       the refusal's number; where the run ends; the state after the call
 --   runFirings, runAnswer             the firings made, and the answer
---   ranNumber, ranRow, ranOutcome, ranFirings      the numbers for each case of the answer
+--   ranNumber, ranOutcome, ranFirings      the numbers for each case of the answer
 --
 -- Assumes nothing.
 use Prim.Native.Nat.{ℕ, _-_, _≤_, _<_}
@@ -67,10 +67,6 @@ ranOutcome (Spent f) = record { answer = SPENT; node = 0 }
 ranOutcome (Complete f) = record { answer = COMPLETE; node = 0 }
 ranOutcome (ZeroStep f i) = record { answer = ZERO-STEP; node = i }
 ranOutcome (Stranded f) = record { answer = STRANDED; node = 0 }
-
--- 'its row is 0 for 11 to 18'
-abbrev pub ranRow : Ran → ℕ
-ranRow r = 0
 
 abbrev pub ranFirings : Ran → ℕ
 ranFirings (Refused n) = 0

@@ -14,7 +14,7 @@ use Rattle.word.specs.Words.{pick}
 use Rattle.graph.specs.Graph.{nodeCount}
 use Rattle.state.specs.Net.{netOf}
 use Rattle.state.specs.Run.{Outcome, outcome, anyReady, complete, zeroStep, SPENT, COMPLETE, ZERO-STEP, STRANDED}
-use Rattle.run.specs.Entry.{runRefusal, runAt, runState, runFirings, ranBy, runAnswer, ranNumber, ranRow, ranOutcome, ranFirings}
+use Rattle.run.specs.Entry.{runRefusal, runAt, runState, runFirings, ranBy, runAnswer, ranNumber, ranOutcome, ranFirings}
 use Rattle.run.specs.declared.Ran.{Ran}
 use Rattle.run.specs.declared.Ran.the-variants.{Refused}
 
@@ -62,7 +62,6 @@ module _ (g s order : List ℕ) (a : ℕ) where
 pub record RunAnswer (g s order : List ℕ) (allowance : ℕ) (r : Ran) (exit : List ℕ) : Type 0 where
   pub answer : r ≡ runAnswer g s order allowance
   pub number : ranNumber r ≡ runRefusal g s order
-  pub row : ranRow r ≡ 0
   pub outcome : ranOutcome r ≡ pick (eqb (runRefusal g s order) 0) (outcome g (runAt g s order allowance .state)) (over 0 0)
   pub firings : ranFirings r ≡ pick (eqb (runRefusal g s order) 0) (runFirings g s order allowance) 0
   pub state : exit ≡ runState g s order allowance
@@ -72,7 +71,6 @@ run-answers g s order a r exit e h =
     record {
       answer = e;
       number = ap ranNumber e ∙ run-number g s order a;
-      row = refl;
       outcome = ap ranOutcome e ∙ run-outcome g s order a;
       firings = ap ranFirings e ∙ run-firings g s order a;
       state = h;

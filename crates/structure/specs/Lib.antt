@@ -6,6 +6,7 @@ pub mod Spans
 pub mod Serving
 pub mod Operands
 pub mod Order
+pub mod Depth
 pub mod Paper
 pub mod Structure
 pub mod Cases

@@ -91,9 +91,10 @@ module _ (t : List ℕ) (ok : TableRight t) where
       let p : kindOf t r ≤ 1 = start-behind t (suc r) (ok .row (suc r) less) k in
       stack-stays t r (λ e. omega arith) (λ e. omega arith) (λ e. omega arith) (λ e. omega arith) ∙ start-outside r (omega arith) p
 
-  room : (r : ℕ) → r < size t → kindOf t r ≡ 4 → length (stackAt t r) < 8
+  -- a FOR stands where fewer than eight loops are open
+  pub loop-room : (r : ℕ) → r < size t → kindOf t r ≡ 4 → length (stackAt t r) < 8
   unfolding depthRight
-  room r less k = ltb-true (length (stackAt t r)) 8 (rw k at (ok .row r less .depth))
+  loop-room r less k = ltb-true (length (stackAt t r)) 8 (rw k at (ok .row r less .depth))
 
   pub at-most-eight-deep : (r : ℕ) → r ≤ size t → length (stackAt t r) ≤ 8
   unfolding stackAt
@@ -101,7 +102,7 @@ module _ (t : List ℕ) (ok : TableRight t) where
   at-most-eight-deep (suc r) less = go (at-most-eight-deep r (omega arith)) (move (kindOf t r))
     where
       go : length (stackAt t r) ≤ 8 → Move (kindOf t r) → length (stackAt t (suc r)) ≤ 8
-      go h (opens k) = rw (stack-opens t r k) (room r less k)
+      go h (opens k) = rw (stack-opens t r k) (loop-room r less k)
       go h (counts k) = rw (stack-arg t r k, same-length oneArg (stackAt t r)) h
       go h (serves k) = rw (stack-next t r k, same-length oneNext (stackAt t r)) h
       go h (closes k) = rw (stack-closes t r k) (omega (arith, less-outward (stackAt t r)))

@@ -1,7 +1,7 @@
--- `laying::resolve` meets its contract. It calls itself for the enclosing loop: the rank of the body falls, until home is reached. Assumes nothing.
+-- `laying::resolve` meets its contract. It calls itself for the enclosing loop: the nesting depth of the body falls, until home is reached. Assumes nothing.
 use native.Mathlib.Omega.{arith}
-use Rattle.table.specs.Rows.{size}
-use Rattle.carrying.specs.Way.{rank, below, noted, way-on, rank-below}
+use Rattle.structure.specs.Depth.{depth}
+use Rattle.carrying.specs.Way.{below, noted, way-on, less-deep}
 use Rattle.laying.proofs.Copies.{at-home, takes, carries-on, resolved-on}
 use Prim.Native.Nat.{ℕ, _<_}
 use borrow.Fn.Kinds.{In}
@@ -15,7 +15,7 @@ use Rattle.laying.proofs.+resolve.{statement}
 use Rattle.laying.proofs.+resolve.Tie.{close}
 
 abbrev μ-resolve : Measures 7 resolve-kinds.ps ℕ
-μ-resolve κs a = rank (size (a .0 .now)) (a .1 .1 .1 .1 .1 .1 .1 .1 .1 .1 .0)
+μ-resolve κs a = depth (a .0 .now) (a .1 .1 .1 .1 .1 .1 .1 .1 .1 .1 .0)
 
 abbrev resolve-at : ℕ → In 7 resolve-kinds.ps
 resolve-at t = and 7 resolve-kinds.ps (is 7 resolve-kinds.ps μ-resolve t) resolve.Pre
@@ -55,7 +55,7 @@ resolve-resolve-requires t c κs = let Q = c .before .before .before .before .be
     let P = Q .1 in
     let d = c .before .before .before .before .if1 .left in
     let x = noted _ _ (P .0) _ _ _ (P .1) (below _ _ (P .0) _ _ _ (P .3) d (P .4)) (c .before .before .before .noted-at .ensures) in (
-      rank-below _ _ (P .0) _ _ _ _ _ (Q .0) (P .3) d (P .4) x,
+      less-deep _ _ (P .0) _ _ _ _ _ (Q .0) (P .3) d (P .4) x,
       (P .0, P .1, P .2, P .3, way-on _ _ (P .0) _ _ _ _ (P .3) d (P .4) x, carries-on _ _ (P .0) _ _ _ (P .3) d (P .4) (P .5) (P .2) _ x, P .6, P .7, P .8),
     )
 

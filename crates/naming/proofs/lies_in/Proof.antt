@@ -4,7 +4,7 @@ use mathlib.Core.Path.{_≡_, refl, sym, _∙_}
 use native.Mathlib.Omega.{arith}
 use Rattle.naming.proofs.Inside.{body-around, outward-less, outside-all, inside-here, inside-outward}
 use Rattle.naming.specs.Carried.{Body}
-use Rattle.carrying.specs.Way.{rank}
+use Rattle.structure.specs.Depth.{depth}
 use Rattle.lowered.specs.Sources.{inside}
 use Rattle.naming.proofs.lies_in.Statement.{statement}
 use Rattle.naming.proofs.lies_in.Tie as tie
@@ -13,7 +13,7 @@ abbrev Inv-loop : tie.InvT-loop
 Inv-loop table n bodies l b x₀ x = Body table x × (inside table l b ≡ inside table l x)
 
 abbrev μ-loop : tie.MeasureT-loop
-μ-loop table n bodies l b x₀ x = rank n x
+μ-loop table n bodies l b x₀ x = depth table x
 
 loop-holds : tie.Need-loop-holds Inv-loop μ-loop
 loop-holds c = (c .before .pre .4, refl)
