@@ -12,6 +12,7 @@ pub mod Sorted
 pub mod Numbered
 pub mod Accepts
 pub mod Answers
+pub mod Limits
 pub mod Bases
 pub mod Counts
 pub mod Wired
