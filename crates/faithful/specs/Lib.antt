@@ -28,6 +28,7 @@ pub mod Places
 pub mod Loading
 -- Orders on the lowered words.
 pub mod Order
+pub mod EndState
 pub mod Endings
 pub mod Faults
 pub mod Waiting

@@ -3,8 +3,11 @@
 -- keeps no word of a carried-in value, so the next opening cannot meet it.
 --
 --   lowered-table-means-its-reading   every order rests after the same number of firings, with the reading's words and nothing else
+--   the-end-state                     so the end state, all its words, is `endState`
 --   every-run-is-complete             so every run with that allowance, whatever its list, answers COMPLETE in that state
---   zero-step-is-never-complete       where the reading meets a zero step, every order that rests answers ZERO STEP
+--   zero-step-is-named                where the reading meets a zero step, in every order that rests the STREAM of that loop waits with it, and ZERO
+--                                     STEP is answered with the lowest node that waits so
+--   zero-step-is-never-complete       so every order that rests answers ZERO STEP
 --   no-run-completes-a-fault          so no run, whatever its list and allowance, answers COMPLETE there
 --   rest-bounds-the-reading           where an order rests after F firings, the reading comes to an outcome, within a number of steps that F fixes
 --   endless-reading-never-rests       so where the reading comes to no outcome, no order rests
@@ -50,8 +53,9 @@ use Rattle.table.specs.Check.{tableRefusal, answer}
 use Rattle.structure.specs.Structure.{Structure, passing-table-has-structure}
 use Rattle.reading.specs.Reading.{Opening, Outcome, ended, zeroStep, begin, readFrom, read, resultsFrom}
 use Rattle.reading.specs.Outcome.{Reads}
-use Rattle.lowered.specs.Roles.{stream, gate, output}
-use Rattle.lowered.specs.Lower.{wireNumber, loweredWords}
+use Rattle.lowered.specs.Gathered.{position}
+use Rattle.lowered.specs.Roles.{stream, gate, output, sameRole}
+use Rattle.lowered.specs.Lower.{roles, wireNumber, loweredWords}
 use Rattle.lowered.specs.Room.{hasRoom, fitsInto, refusedBy, checkAnswer, lowerRefusal}
 use Rattle.laid.specs.Answers.{number-0-is-no-refusal, checked-table-lowers}
 use Rattle.faithful.specs.Conditions.{turnsOf, turns-reverse, rawOf, gatedOf}
@@ -63,8 +67,9 @@ use Rattle.faithful.specs.Endless.{Far, outcome-or-far, enough-steps}
 use Rattle.faithful.specs.Finish.{finished, rests}
 use Rattle.faithful.specs.Places.{laid, num}
 use Rattle.faithful.specs.Order.{first-state, follows-first, order-shows}
+use Rattle.faithful.specs.EndState.{endState}
 use Rattle.faithful.specs.Endings.{AsRead, ended-as-read, answers-complete}
-use Rattle.faithful.specs.Faults.{ZeroStepped, zero-step-lasts, answers-zero-step}
+use Rattle.faithful.specs.Faults.{ZeroStepped, zero-step-lasts, ZeroStepNamed, answers-zero-step}
 use Rattle.faithful.specs.Waiting.{waiting, not-complete}
 
 abbrev pub loadedTable : List ℕ → List ℕ → List ℕ
@@ -76,6 +81,10 @@ rawWire t L = wireNumber t (output (stream L) out1)
 
 abbrev pub gatedWire : List ℕ → ℕ → ℕ
 gatedWire t L = wireNumber t (output (gate L) out1)
+
+-- the number of the node that is that loop's STREAM
+abbrev pub streamNode : List ℕ → ℕ → ℕ
+streamNode t L = position sameRole (stream L) (roles t)
 
 -- What an order has put on the conditions of each loop: for its openings in turn, N ones and a zero on the raw one, and N - 1 ones and a zero, or
 -- nothing for N = 0, on the gated one.
@@ -157,7 +166,7 @@ module _ (t : List ℕ) (checked : checkAnswer t .number ≡ 0) where
             x .state,
             x .fires,
             rests tb N n (laid t S ok) G (e .env) (x .tokens) (e .there) (x .shown) (e .follows .gamma) (x .state) (x .flat),
-            subst (λ (z : List ℕ). AsRead t z (x .state)) (sym kw) (ended-as-read t S ok (e .env) (x .state) f),
+            subst (λ (z : List ℕ). AsRead t z (x .state)) (sym kw) (ended-as-read t S ok (e .env) (x .state) (x .flat .long) f),
             record {
               raw = λ L kL.
                   let m = for-row t S L kL in
@@ -197,6 +206,11 @@ module _ (t : List ℕ) (checked : checkAnswer t .number ≡ 0) where
             },
       )
 
+  -- So the whole end state is one list of words: for each wire 1 and the word of its result, or 0 0; then four zeros for each node.
+  pub the-end-state : (inputs words : List ℕ) (openings : List Opening) → Reads t inputs (ended words openings)
+      → (order u : List ℕ) → Fires (loweredWords t) order (loadedTable t inputs) u → AtRest (loweredWords t) u → u ≡ endState (loweredWords t) words
+  the-end-state inputs words openings r order u q h = lowered-table-means-its-reading inputs words openings r .1 order u q .ends h .state .whole
+
   -- ---- runs
 
   -- Any run with an allowance of F, whatever its list of nodes, answers COMPLETE, has made F firings and ends as the reading does.
@@ -235,14 +249,19 @@ module _ (t : List ℕ) (checked : checkAnswer t .number ≡ 0) where
             subst (IsFor (tableOf t)) (sym d) (e .start, e .step, e .bound, e .change, e .compare, e .row),
           )
 
-  -- Every order that rests answers ZERO STEP: the STREAM of some loop in phase 0 has three tokens, and its step is 0.
-  pub zero-step-is-never-complete : (inputs : List ℕ) (L : ℕ) (openings : List Opening) → Reads t inputs (zeroStep L openings)
-      → (order u : List ℕ) → Fires (loweredWords t) order (loadedTable t inputs) u → AtRest (loweredWords t) u → outcome (loweredWords t) u .answer ≡ ZERO-STEP
-  zero-step-is-never-complete inputs L openings r order u q h =
+  -- In every order that rests the STREAM of that loop waits with the zero step; ZERO STEP is answered, and the lowest STREAM that waits so is named.
+  pub zero-step-is-named : (inputs : List ℕ) (L : ℕ) (openings : List Opening) → Reads t inputs (zeroStep L openings)
+      → (order u : List ℕ) → Fires (loweredWords t) order (loadedTable t inputs) u → AtRest (loweredWords t) u
+      → ZeroStepNamed (loweredWords t) u (streamNode t L) (outcome (loweredWords t) u)
+  zero-step-is-named inputs L openings r order u q h =
       let f = faulted-order inputs L openings r in
       let a = every-order-rests-alike (loweredWords t) ok order (loadedTable t inputs) u q h (f .0) (f .1) (f .2) in
       let Z = zero-step-lasts (loweredWords t) ok (a .extends .0) (f .1) u (num t S (stream L)) (f .3) (a .extends .1) in
-      answers-zero-step (loweredWords t) u (num t S (stream L)) (node-in-range (loweredWords t) (num t S (stream L)) (Z .node) (Z .here)) Z h (not-complete t S ok u L (f .4) Z)
+      answers-zero-step (loweredWords t) u (streamNode t L) (node-in-range (loweredWords t) (num t S (stream L)) (Z .node) (Z .here)) Z h (not-complete t S ok u L (f .4) Z)
+
+  pub zero-step-is-never-complete : (inputs : List ℕ) (L : ℕ) (openings : List Opening) → Reads t inputs (zeroStep L openings)
+      → (order u : List ℕ) → Fires (loweredWords t) order (loadedTable t inputs) u → AtRest (loweredWords t) u → outcome (loweredWords t) u .answer ≡ ZERO-STEP
+  zero-step-is-never-complete inputs L openings r order u q h = zero-step-is-named inputs L openings r order u q h .answer
 
   -- So no run answers COMPLETE.
   pub no-run-completes-a-fault : (inputs : List ℕ) (L : ℕ) (openings : List Opening) → Reads t inputs (zeroStep L openings)
