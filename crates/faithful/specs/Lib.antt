@@ -34,3 +34,4 @@ pub mod Faults
 pub mod Waiting
 pub mod Statements
 pub mod NotIdle
+pub mod NotSo

@@ -24,7 +24,7 @@ use Rattle.table.specs.Scan.{after, stackAt, bodyOf, readStack, reads, homeBy, 
 use Rattle.table.specs.Check.{Refusal, answer, tableRefusal, lengthRight, kindRight, zerosFrom, spareRight, codeRight, follows, stands, placeRight, depthRight, namesFrom, namesRight, typesFrom, typesRight, endRight, rowRefusal, rowsFrom}
 use Rattle.table.specs.Bodies.{rowBy, rowAt, ends, endFrom, endOf, argsFrom, argsOf, firstOf, isArg, isNext, argOf, nextOf}
 use Rattle.table.specs.Cases.{const, loop, arg, next, close, out, sumTable, sumBy, p12Table, sum-passes, p12-passes}
-use Rattle.reading.specs.Reading.{Env, Opening, at, nextNamed, oneTurn, endStep, inputsBelow, firstWords, begin, turn, step, andThen, readFrom, read}
+use Rattle.reading.specs.Reading.{Env, Opening, at, nextNamed, oneTurn, endStep, inputsBelow, firstWords, begin, turn, leave, step, andThen, readFrom, read}
 use Rattle.reading.specs.Cases.{p10-reads-10, p11-reads-0, p12-reads-5, zero-step-at-row-3}
 use Rattle.lowered.specs.Lower.{loweredWords}
 use Rattle.lowered.specs.Room.{ROOM, hasRoom, refusedBy, checkAnswer}
@@ -32,8 +32,17 @@ use Rattle.lowered.specs.Cases.{lowering-computes}
 use Rattle.faithful.specs.Conditions.{turnsOf}
 use Rattle.faithful.specs.Statements.{loadedTable, rawWire, gatedWire, lowered-table-means-its-reading, zero-step-is-never-complete, endless-reading-never-rests}
 
+-- everything that a refusal computes with, and everything that a reading does
+unfoldable pub check-computes : ℕ
+unfolding usedWords operandCount firstOperand sortOf wantedSort after stackAt bodyOf readStack reads homeBy home bodyOpen endPassed visible lengthRight kindRight zerosFrom spareRight codeRight follows stands placeRight depthRight namesFrom namesRight typesFrom typesRight endRight rowRefusal rowsFrom tableRefusal
+check-computes = 0
+
+unfoldable pub reading-computes : ℕ
+unfolding condition update after stackAt bodyOf rowBy rowAt ends endFrom endOf argsFrom argsOf firstOf isArg isNext argOf nextOf inputsBelow firstWords begin turn leave step readFrom read
+reading-computes = 0
+
 -- a table that passes 1 to 9 and has room is checked
-checked : (n : ℕ) (R : Refusal) (b : Bool) → R ≡ answer 0 0 → b ≡ true → cond (eqb (R .number) 0) (cond b (answer 0 0) (answer ROOM n)) R .number ≡ 0
+pub checked : (n : ℕ) (R : Refusal) (b : Bool) → R ≡ answer 0 0 → b ≡ true → cond (eqb (R .number) 0) (cond b (answer 0 0) (answer ROOM n)) R .number ≡ 0
 checked n R b h k = rw (h, k)
 
 sum-has-room : hasRoom sumTable ≡ true
@@ -82,7 +91,7 @@ the-inner-loop-opens-anew order u f h =
 
 -- the sum table with step 0
 zero-passes : tableRefusal (sumBy 0) ≡ answer 0 0
-unfolding usedWords operandCount firstOperand sortOf wantedSort after stackAt bodyOf readStack reads homeBy home bodyOpen endPassed visible lengthRight kindRight zerosFrom spareRight codeRight follows stands placeRight depthRight namesFrom namesRight typesFrom typesRight endRight rowRefusal rowsFrom tableRefusal
+unfolding check-computes
 zero-passes = refl
 
 zero-has-room : hasRoom (sumBy 0) ≡ true
@@ -103,7 +112,7 @@ abbrev pub stayTable : List ℕ
 stayTable = const 0 (const 1 (loop 0 1 0 2 1 (arg 0 (next 3 (close (out 4))))))
 
 stay-passes : tableRefusal stayTable ≡ answer 0 0
-unfolding usedWords operandCount firstOperand sortOf wantedSort after stackAt bodyOf readStack reads homeBy home bodyOpen endPassed visible lengthRight kindRight zerosFrom spareRight codeRight follows stands placeRight depthRight namesFrom namesRight typesFrom typesRight endRight rowRefusal rowsFrom tableRefusal
+unfolding check-computes
 stay-passes = refl
 
 stay-has-room : hasRoom stayTable ≡ true
@@ -117,7 +126,7 @@ stay-is-checked = checked (size stayTable) (tableRefusal stayTable) (hasRoom sta
 -- at NEXT and at END, in whatever turn
 in-the-body : (k : ℕ) (env : Env) (os : List Opening) → env 0 ≡ 0 → env 1 ≡ 1 → env 2 ≡ 0
     → (readFrom k stayTable (at 4 env os) ≡ none) × (readFrom k stayTable (at 5 env os) ≡ none)
-unfolding condition update after stackAt bodyOf rowBy rowAt ends endFrom endOf argsFrom argsOf firstOf isArg isNext argOf nextOf turn step readFrom
+unfolding reading-computes
 in-the-body zero env os a b c = (refl, refl)
 in-the-body (suc k) env os a b c =
     let x : update 2 (env 2) (env 1) ≡ 0 = ap₂ (update 2) c b in
@@ -129,7 +138,7 @@ in-the-body (suc k) env os a b c =
     again later x (suc y) ex ey = later (turn stayTable 2 x (nextNamed stayTable env) env) a b ex .0
 
 pub stay-reads-for-ever : (k : ℕ) → read k stayTable [] ≡ none
-unfolding condition update after stackAt bodyOf rowBy rowAt ends endFrom endOf argsFrom argsOf firstOf isArg isNext argOf nextOf inputsBelow firstWords begin turn step readFrom read
+unfolding reading-computes
 stay-reads-for-ever zero = refl
 stay-reads-for-ever (suc zero) = refl
 stay-reads-for-ever (suc (suc zero)) = refl
