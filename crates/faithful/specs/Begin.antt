@@ -22,7 +22,7 @@ use Rattle.uses.specs.Machine.{State}
 use Rattle.uses.specs.Wires.{Tokens, Steps2, steps2-append, puts2, puts2-both, Spreads, spread}
 use Rattle.uses.specs.Layout.{Layout, Made, Tree, UseOf, Shown, use-in-tree, use-tree, among-use}
 use Rattle.faithful.specs.Table.{Table, Slot, val, isIn, IsFor, wireOf, slot, slotWire, src, Real, plan}
-use Rattle.faithful.specs.Good.{Good, Source, fromStart, fromOp, fromFor, fromArg, fromNext, fromCopy, source, Inward, gateIndex, gateCondition, splitGuard, copyCondition, copySeed, carryCondition, argCondition, argCarried, inward}
+use Rattle.faithful.specs.Good.{Good, Source, fromStart, fromOp, fromFor, fromArg, fromNext, fromCopy, source, Inward, inward}
 use Rattle.faithful.specs.Gamma.{Env, Live, Inside, Shows, scope, held, Gamma, shows-none, shows-some}
 
 module _ (tb : Table) (net : Net) (y : Layout (plan tb) net) (env : Env) where
@@ -151,14 +151,7 @@ module _ (tb : Table) (net : Net) (y : Layout (plan tb) net) (env : Env) where
       }
     where
       inner-none : (p : Use) (w : Wire) → Inward tb p w → startTok (some w) ≡ none
-      inner-none p w (gateIndex L a b fr) = ap (λ (z : Wire). startTok (some z)) b
-      inner-none p w (gateCondition L a b fr) = ap (λ (z : Wire). startTok (some z)) b
-      inner-none p w (splitGuard L v a b c) = ap (λ (z : Wire). startTok (some z)) b
-      inner-none p w (copyCondition L v a b c) = ap (λ (z : Wire). startTok (some z)) b
-      inner-none p w (copySeed L v a b c) = ap (λ (z : Wire). startTok (some z)) b
-      inner-none p w (carryCondition a i b c d) = ap (λ (z : Wire). startTok (some z)) c
-      inner-none p w (argCondition a b c d) = ap (λ (z : Wire). startTok (some z)) c
-      inner-none p w (argCarried a b c d) = ap (λ (z : Wire). startTok (some z)) c
+      inner-none p w i = ap (λ (z : Wire). startTok (some z)) (i .wire-is)
 
       no-loop : (B : ℕ) → IsFor tb B → tb .first B ≤ 0 → ⊥
       no-loop B f l = let a = g .for-first B f in omega arith

@@ -25,12 +25,13 @@ use Rattle.step.specs.declared.Record.{Record}
 use Rattle.table.specs.Bodies.{Row, for, arg, next}
 use Rattle.lowered.specs.Roles.{Role, stream, gate, guard, copySplit, copyInvariant, carry, argSplit, output, Use, into}
 use Rattle.uses.specs.Machine.{State, giveBy, takeBy, nextBy, put, drop, listed, given, taken, Ready}
-use Rattle.faithful.specs.Table.{Table, val, absent, IsFor, wireOf, since, slot, isArg, Real, programOf, plan}
-use Rattle.faithful.specs.Good.{Used, Good, ForUse, intoStream, intoGuard, intoSplit, intoCarry}
+use Rattle.faithful.specs.Table.{Table, val, inner, absent, IsFor, wireOf, since, slot, Real, programOf, plan}
+use Rattle.faithful.specs.Members.{inLoop}
+use Rattle.faithful.specs.Good.{Used, Good}
 use Rattle.faithful.specs.Gamma.{Env, streamHeld, Live, Inside, Shows, scope, held, Gamma, shows-same, shows-none, shows-some, for-not-end}
 use Rattle.faithful.specs.Rows.{sight, put-drop-none, real-body, recs-same, token-at, Path}
-use Rattle.faithful.specs.Loop.{inLoop, only, two-in, arg-in, eqb-yes, reads-not, Fill, fillsIndex, fillsArg, fillsCopy, fillsExit, fillsNone, fill, Taking, takenByFor, takenByEnd, takenByNone, takes-yes, taking}
-use Rattle.faithful.specs.Stages.{drop-none, drop-either, put-none, no-gift, put-late, put-nothing, Effects, Inlet, gate0, gate1, split0, inv0, inv1, carry0, arg0, arg1, inletNode, inletInput, inletFrom, inletOutput, InletOf, node-in, inlet-slot, flow, tokv, own-in, by-role, real-in, ready-all, Runs, to-runs, S1, S2, S3, at1, at2, inner3, room2, room3, own2, own3, own-still, fired3, hist3, sayIf}
+use Rattle.faithful.specs.Loop.{only, reads-not, Fill, fillsIndex, fillsArg, fillsCopy, fillsExit, fillsNone, fill, Taking, takenBy, takenByNone, takes-yes, taking}
+use Rattle.faithful.specs.Stages.{drop-none, drop-either, put-none, no-gift, put-late, put-nothing, Effects, Link, tokv, own-in, by-role, real-in, ready-all, Runs, to-runs, S1, S2, S3, at1, at2, inner3, room2, room3, own2, own3, own-still, fired3, hist3, sayIf}
 use Rattle.faithful.specs.Ports.{Port, link, waits, nothing, port, PortIs, port-is, kinds}
 use Rattle.faithful.specs.Turn.{From, atFor, atEnd, To, turn, exit, rowOf, bodyOf, rowTo, wordsTo, Stays, and-both, isNext, nextsTo, nexts-same, turnEnv, turn-low, turn-idx, turn-arg, begins-edge, leads-edge, live-same, word-same, inside-same, outer-same, gone, body-live, exit-live, scope-not}
 
@@ -119,31 +120,31 @@ module _ (tb : Table) (g : Good tb) (L s t b u c : ℕ) (q : tb .row L ≡ for s
   wordAt atEnd atEnd v = some (env v)
 
   module _ (from : From) (to : To) (e1 e2 e3 : Effects) where
-    -- what the stages leave on an inner link
-    abbrev pub flow1 : Inlet → Option ℕ
-    flow1 x = flow tb g L isfor e1 x none
+    -- what the stages leave on a link to output o of m, whose other end is taken at them or not
+    abbrev pub flow1 : Role → Output → Bool → Option ℕ
+    flow1 m o t1 = put (giveBy (e1 m) o) (drop t1 none)
 
-    abbrev pub flow2 : Inlet → Option ℕ
-    flow2 x = flow tb g L isfor e2 x (flow1 x)
+    abbrev pub flow2 : Role → Output → Bool → Bool → Option ℕ
+    flow2 m o t1 t2 = put (giveBy (e2 m) o) (drop t2 (flow1 m o t1))
 
-    abbrev pub flow3 : Inlet → Option ℕ
-    flow3 x = flow tb g L isfor e3 x (flow2 x)
+    abbrev pub flow3 : Role → Output → Bool → Bool → Bool → Option ℕ
+    flow3 m o t1 t2 t3 = put (giveBy (e3 m) o) (drop t3 (flow2 m o t1 t2))
 
     -- what stands at an input before each stage; y where nothing is known
     abbrev pub look1 : Port → Option ℕ → Option ℕ
-    look1 (link x) y = none
+    look1 (link m o) y = none
     look1 (waits at v) y = wordAt from at v
     look1 nothing y = y
 
     abbrev pub look2 : Port → Bool → Option ℕ → Option ℕ
-    look2 (link x) took y = flow1 x
+    look2 (link m o) took y = flow1 m o took
     look2 (waits at v) took y = drop took (wordAt from at v)
     look2 nothing took y = y
 
-    abbrev pub look3 : Port → Option ℕ → Option ℕ
-    look3 (link x) y = flow2 x
-    look3 (waits at v) y = y
-    look3 nothing y = y
+    abbrev pub look3 : Port → Bool → Bool → Option ℕ → Option ℕ
+    look3 (link m o) t1 t2 y = flow2 m o t1 t2
+    look3 (waits at v) t1 t2 y = y
+    look3 nothing t1 t2 y = y
 
     -- a role does nothing at a stage, or its program does what the table says
     abbrev pub Does : Effects → Record → (Input → Option ℕ → Option ℕ) → Role → Type 0
@@ -151,7 +152,7 @@ module _ (tb : Table) (g : Good tb) (L s t b u c : ℕ) (q : tb .row L ≡ for s
 
     -- an inner link has room for what is put on it, and none is left over; a value's use is taken when it must be
     abbrev pub serves : Port → Bool → Bool → Bool → Bool
-    serves (link x) t1 t2 t3 = finds (giveBy (e2 (inletFrom L x)) (inletOutput x)) (flow1 x) && (finds (giveBy (e3 (inletFrom L x)) (inletOutput x)) (flow2 x) && empty (flow3 x))
+    serves (link m o) t1 t2 t3 = finds (giveBy (e2 m) o) (flow1 m o t1) && (finds (giveBy (e3 m) o) (flow2 m o t1 t2) && empty (flow3 m o t1 t2 t3))
     serves (waits at v) t1 t2 t3 = takesRightly from at t1 t2 t3
     serves nothing t1 t2 t3 = true
 
@@ -163,7 +164,7 @@ module _ (tb : Table) (g : Good tb) (L s t b u c : ℕ) (q : tb .row L ≡ for s
     Fits n =
         Does e1 (holds from n) (λ k. look1 (port tb s t b n k)) n
         × Does e2 (nextBy (e1 n) (holds from n)) (λ k. look2 (port tb s t b n k) (takeBy (e1 n) k)) n
-        × Does e3 (nextBy (e2 n) (nextBy (e1 n) (holds from n))) (λ k. look3 (port tb s t b n k)) n
+        × Does e3 (nextBy (e2 n) (nextBy (e1 n) (holds from n))) (λ k. look3 (port tb s t b n k) (takeBy (e1 n) k) (takeBy (e2 n) k)) n
         × ((servesAt n in0 && (servesAt n in1 && servesAt n in2)) ≡ true)
         × (nextBy (e3 n) (nextBy (e2 n) (nextBy (e1 n) (holds from n))) ≡ holdsTo to n)
 
@@ -317,27 +318,22 @@ module _ (tb : Table) (g : Good tb) (L s t b u c : ℕ) (q : tb .row L ≡ for s
     waiting : (p : Use) (v B d : ℕ) → slot tb p ≡ val v B d → Waiting p B d
     waiting p v B d r = go (taking tb g L isfor p v B d r)
       where
-        taken-at : (n : Role) (k : Input) → p ≡ into n k → inLoop tb L n ≡ true → serves from to e1 e2 e3 (port tb s t b n k) (took e1 p) (took e2 p) (took e3 p) ≡ true
-        taken-at n k e h =
-            (λ i. serves from to e1 e2 e3 (port tb s t b n k) (takes-yes tb g L isfor p n k e h e1 i) (takes-yes tb g L isfor p n k e h e2 i) (takes-yes tb g L isfor p n k e h e3 i)) ∙ serves-at n h k
-
-        at-for : ForUse tb p L → takesRightly from atFor (took e1 p) (took e2 p) (took e3 p) ≡ true
-        at-for (intoStream in0 e) = taken-at (stream L) in0 e (eqb-yes L)
-        at-for (intoStream in1 e) = taken-at (stream L) in1 e (eqb-yes L)
-        at-for (intoStream in2 e) = taken-at (stream L) in2 e (eqb-yes L)
-        at-for (intoGuard in0 e) = taken-at (guard L) in0 e (eqb-yes L)
-        at-for (intoGuard in1 e) = taken-at (guard L) in1 e (eqb-yes L)
-        at-for (intoGuard in2 e) = let z : absent ≡ val v B d = rw q at (ap (slot tb) (sym e) ∙ r) in let z : _≡_ {A = ℕ} 0 1 = cc in absurd (omega arith)
-        at-for (intoSplit x e m) = taken-at (copySplit L x) in1 e (two-in tb L x m)
-        at-for (intoCarry a i e m l) = taken-at (carry a) in1 e (arg-in tb L a l (ap isArg m))
+        by-port : (n : Role) (k : Input) → p ≡ into n k → inLoop tb L n ≡ true → (x : Port) → PortIs tb g L s t b u c q n k x
+            → serves from to e1 e2 e3 x (took e1 p) (took e2 p) (took e3 p) ≡ true → Waiting p B d
+        by-port n k e h (link m o) i y = let z : inner (output m o) ≡ val v B d = sym (i .reads) ∙ ap (slot tb) (sym e) ∙ r in let z : _≡_ {A = ℕ} 0 1 = cc in absurd (omega arith)
+        by-port n k e h (waits at w) i y =
+            let z : val w (bodyOf tb L at) (rowOf tb L at) ≡ val v B d = sym i ∙ ap (slot tb) (sym e) ∙ r in
+            until at (cc) (cc) y
+        by-port n k e h nothing i y = let z : absent ≡ val v B d = sym i ∙ ap (slot tb) (sym e) ∙ r in let z : _≡_ {A = ℕ} 0 1 = cc in absurd (omega arith)
 
         neither : d ≢ L → d ≢ tb .last L → (f : From) → d ≢ rowOf tb L f
         neither a x atFor = a
         neither a x atEnd = x
 
-        go : Taking tb g L isfor p B d → Waiting p B d
-        go (takenByFor x e y) = until atFor e y (at-for x)
-        go (takenByEnd a i e m l x y) = until atEnd x y (taken-at (carry a) in2 e (arg-in tb L a l (ap isArg m)))
+        go : Taking tb g L isfor p d → Waiting p B d
+        go (takenBy n k e h) =
+            by-port n k e h (port tb s t b n k) (port-is tb g L s t b u c q n h k)
+            ((λ i. serves from to e1 e2 e3 (port tb s t b n k) (takes-yes tb g L isfor p n k e h e1 i) (takes-yes tb g L isfor p n k e h e2 i) (takes-yes tb g L isfor p n k e h e3 i)) ∙ serves-at n h k)
         go (takenByNone a x y) = elsewhere (neither a x) y
 
     after1 : (p : Use) (v B d : ℕ) → slot tb p ≡ val v B d → T1 .tok p ≡ drop (took e1 p) (σ .tok p)
@@ -443,17 +439,17 @@ module _ (tb : Table) (g : Good tb) (L s t b u c : ℕ) (q : tb .row L ≡ for s
     word-at atEnd atEnd H p v r = token-at tb g (tb .last L) env σ H p v L r
 
     seen1 : (n : Role) (k : Input) (x : Port) → PortIs tb g L s t b u c q n k x → σ .tok (into n k) ≡ look1 from to e1 e2 e3 x (σ .tok (into n k))
-    seen1 n k (link x) m = ap (σ .tok) (m .1) ∙ G .inners (into (inletNode L x) (inletInput x)) (output (inletFrom L x) (inletOutput x)) (inlet-slot tb g L isfor x (m .0))
+    seen1 n k (link m o) l = G .inners (into n k) (output m o) (l .reads)
     seen1 n k (waits at v) m = word-at from at G (into n k) v m
     seen1 n k nothing m = refl
 
     seen2 : (n : Role) (k : Input) (x : Port) → inLoop tb L n ≡ true → PortIs tb g L s t b u c q n k x → T1 .tok (into n k) ≡ look2 from to e1 e2 e3 x (takeBy (e1 n) k) (T1 .tok (into n k))
-    seen2 n k (link x) h m = ap (T1 .tok) (m .1) ∙ at1 tb g L isfor e1 e2 e3 σ (G .inners) x (m .0)
+    seen2 n k (link m o) h l = at1 tb g L isfor e1 e2 e3 σ (G .inners) n k m o l
     seen2 n k (waits at v) h m = after1 (into n k) v (bodyOf tb L at) (rowOf tb L at) m ∙ ap₂ drop (takes-yes tb g L isfor (into n k) n k refl h e1) (word-at from at G (into n k) v m)
     seen2 n k nothing h m = refl
 
-    seen3 : (n : Role) (k : Input) (x : Port) → PortIs tb g L s t b u c q n k x → T2 .tok (into n k) ≡ look3 from to e1 e2 e3 x (T2 .tok (into n k))
-    seen3 n k (link x) m = ap (T2 .tok) (m .1) ∙ at2 tb g L isfor e1 e2 e3 σ (G .inners) x (m .0)
+    seen3 : (n : Role) (k : Input) (x : Port) → PortIs tb g L s t b u c q n k x → T2 .tok (into n k) ≡ look3 from to e1 e2 e3 x (takeBy (e1 n) k) (takeBy (e2 n) k) (T2 .tok (into n k))
+    seen3 n k (link m o) l = at2 tb g L isfor e1 e2 e3 σ (G .inners) n k m o l
     seen3 n k (waits at v) m = refl
     seen3 n k nothing m = refl
 
@@ -465,22 +461,24 @@ module _ (tb : Table) (g : Good tb) (L s t b u c : ℕ) (q : tb .row L ≡ for s
         ∙ z (ς .tok (into n in0)) (ς .tok (into n in1)) (ς .tok (into n in2)))
 
     -- an inner link, at stages 2 and 3 and after
-    links : (x : Inlet) → InletOf tb g L isfor x
-        → (finds (giveBy (e2 (inletFrom L x)) (inletOutput x)) (flow1 from to e1 e2 e3 x) ≡ true) × (finds (giveBy (e3 (inletFrom L x)) (inletOutput x)) (flow2 from to e1 e2 e3 x) ≡ true)
-        × (empty (flow3 from to e1 e2 e3 x) ≡ true)
-    links x m =
-        and-three (finds (giveBy (e2 (inletFrom L x)) (inletOutput x)) (flow1 from to e1 e2 e3 x)) (finds (giveBy (e3 (inletFrom L x)) (inletOutput x)) (flow2 from to e1 e2 e3 x)) (empty (flow3 from to e1 e2 e3 x))
-        (go x (serves-at (inletNode L x) (node-in tb g L isfor x m) (inletInput x)))
+    links : (n : Role) (k : Input) (m : Role) (o : Output) → Link tb g L isfor n k m o
+        → (finds (giveBy (e2 m) o) (flow1 from to e1 e2 e3 m o (takeBy (e1 n) k)) ≡ true)
+        × (finds (giveBy (e3 m) o) (flow2 from to e1 e2 e3 m o (takeBy (e1 n) k) (takeBy (e2 n) k)) ≡ true)
+        × (empty (flow3 from to e1 e2 e3 m o (takeBy (e1 n) k) (takeBy (e2 n) k) (takeBy (e3 n) k)) ≡ true)
+    links n k m o l =
+        and-three (finds (giveBy (e2 m) o) (flow1 from to e1 e2 e3 m o (takeBy (e1 n) k))) (finds (giveBy (e3 m) o) (flow2 from to e1 e2 e3 m o (takeBy (e1 n) k) (takeBy (e2 n) k)))
+        (empty (flow3 from to e1 e2 e3 m o (takeBy (e1 n) k) (takeBy (e2 n) k) (takeBy (e3 n) k)))
+        (go (port tb s t b n k) (port-is tb g L s t b u c q n (l .node-in) k) (serves-at n (l .node-in) k))
       where
-        go : (x : Inlet) → servesAt from to e1 e2 e3 (inletNode L x) (inletInput x) ≡ true → serves from to e1 e2 e3 (link x) false false false ≡ true
-        go gate0 h = h
-        go gate1 h = h
-        go (split0 v) h = h
-        go (inv0 v) h = h
-        go (inv1 v) h = h
-        go (carry0 a) h = h
-        go (arg0 a) h = h
-        go (arg1 a) h = h
+        go : (x : Port) → PortIs tb g L s t b u c q n k x → serves from to e1 e2 e3 x (takeBy (e1 n) k) (takeBy (e2 n) k) (takeBy (e3 n) k) ≡ true
+            → serves from to e1 e2 e3 (link m o) (takeBy (e1 n) k) (takeBy (e2 n) k) (takeBy (e3 n) k) ≡ true
+        go (link m′ o′) i h =
+            let z : inner (output m′ o′) ≡ inner (output m o) = sym (i .reads) ∙ l .reads in
+            let a : m ≡ m′ = cc in
+            let b : o ≡ o′ = cc in
+            (λ j. serves from to e1 e2 e3 (link (a j) (b j)) (takeBy (e1 n) k) (takeBy (e2 n) k) (takeBy (e3 n) k)) ∙ h
+        go (waits at v) i h = let z : val v (bodyOf tb L at) (rowOf tb L at) ≡ inner (output m o) = sym i ∙ l .reads in let z : _≡_ {A = ℕ} 0 1 = cc in absurd (omega arith)
+        go nothing i h = let z : absent ≡ inner (output m o) = sym i ∙ l .reads in let z : _≡_ {A = ℕ} 0 1 = cc in absurd (omega arith)
 
     ready1 : (n : Role) (d : Effect) → inLoop tb L n ≡ true → e1 n ≡ some d → Ready (plan tb) n d σ
     ready1 =
@@ -494,15 +492,15 @@ module _ (tb : Table) (g : Good tb) (L s t b u c : ℕ) (q : tb .row L ≡ for s
         (to-runs tb g L isfor e2 T1
         (λ n h. runs e2 T1 (nextBy (e1 n) (holds from n)) (λ k. look2 from to e1 e2 e3 (port tb s t b n k) (takeBy (e1 n) k)) n (λ k. seen2 n k (port tb s t b n k) h (port-is tb g L s t b u c q n h k))
         (own-in tb g L isfor e1 σ n h ∙ ap (nextBy (e1 n)) (begins n h)) (fits n h .1)))
-        (room2 tb g L isfor e1 e2 e3 σ (G .inners) (λ x m y k. finds-none (giveBy (e2 (inletFrom L x)) (inletOutput x)) (flow1 from to e1 e2 e3 x) y (links x m .0) k)) room-two
+        (room2 tb g L isfor e1 e2 e3 σ (G .inners) (λ n k m o l y z. finds-none (giveBy (e2 m) o) (flow1 from to e1 e2 e3 m o (takeBy (e1 n) k)) y (links n k m o l .0) z)) room-two
 
     ready3 : (n : Role) (d : Effect) → inLoop tb L n ≡ true → e3 n ≡ some d → Ready (plan tb) n d T2
     ready3 =
         ready-all tb g L isfor e3 T2
         (to-runs tb g L isfor e3 T2
-        (λ n h. runs e3 T2 (nextBy (e2 n) (nextBy (e1 n) (holds from n))) (λ k. look3 from to e1 e2 e3 (port tb s t b n k)) n (λ k. seen3 n k (port tb s t b n k) (port-is tb g L s t b u c q n h k))
+        (λ n h. runs e3 T2 (nextBy (e2 n) (nextBy (e1 n) (holds from n))) (λ k. look3 from to e1 e2 e3 (port tb s t b n k) (takeBy (e1 n) k) (takeBy (e2 n) k)) n (λ k. seen3 n k (port tb s t b n k) (port-is tb g L s t b u c q n h k))
         (own2 tb g L isfor e1 e2 e3 σ (G .inners) n h ∙ ap (λ (z : Record). nextBy (e2 n) (nextBy (e1 n) z)) (begins n h)) (fits n h .2)))
-        (room3 tb g L isfor e1 e2 e3 σ (G .inners) (λ x m y k. finds-none (giveBy (e3 (inletFrom L x)) (inletOutput x)) (flow2 from to e1 e2 e3 x) y (links x m .1) k)) room-three
+        (room3 tb g L isfor e1 e2 e3 σ (G .inners) (λ n k m o l y z. finds-none (giveBy (e3 m) o) (flow2 from to e1 e2 e3 m o (takeBy (e1 n) k) (takeBy (e2 n) k)) y (links n k m o l .1) z)) room-three
 
     -- ---- the records where the step leads
 
@@ -540,7 +538,7 @@ module _ (tb : Table) (g : Good tb) (L s t b u c : ℕ) (q : tb .row L ≡ for s
           fd .1,
           record {
             values = values;
-            inners = inner3 tb g L isfor e1 e2 e3 σ (G .inners) (λ x m. empty-none (flow3 from to e1 e2 e3 x) (links x m .2));
+            inners = inner3 tb g L isfor e1 e2 e3 σ (G .inners) (λ n k m o l. empty-none (flow3 from to e1 e2 e3 m o (takeBy (e1 n) k) (takeBy (e2 n) k) (takeBy (e3 n) k)) (links n k m o l .2));
             records-in = λ n rl. recorded n rl .0;
             records-out = λ n rl. recorded n rl .1;
           },

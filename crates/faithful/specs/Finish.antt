@@ -55,8 +55,8 @@ module _ (tb : Table) (g : Good tb) (env : Env) (t : State) (G : Gamma tb (tb .s
 
       go : (v B c : ℕ) → slot tb (into n k) ≡ val v B c → When tb (into n k) v B c → t .tok (into n k) ≡ none
       go v B c q (byOp i e x) = off v B c q (g .op-size c x)
-      go v B c q (byFor f x e) = off v B c q (below-size c f)
-      go v B c q (byEnd a i e x l _ _) = off v B c q (let z = g .for-size (tb .loop a) (g .arg-for a i x) in omega arith)
+      go v B c q (byFor f _ _ _ _ _) = off v B c q (below-size c f)
+      go v B c q (byEnd L f _ _ _ _ l _) = off v B c q (let z = g .for-size L f in omega arith)
       go v B c q (byOut r e l _) = let z : _≡_ {A = ℕ} 0 1 = cc in absurd (omega arith)
 
   -- a result holds its word

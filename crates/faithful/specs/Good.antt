@@ -15,10 +15,11 @@ use Prim.Native.Nat.{ℕ, suc, _≤_, _<_}
 use native.Mathlib.Omega.{arith}
 use mir.Facts.{yes-eqb}
 use lib.Dec.{T, eqb, eqb→eq}
-use Rattle.step.specs.Kinds.{Input, in0, in1, in2, out0, out1}
+use Rattle.step.specs.Kinds.{Input, in0, in1, in2, Output, out0, out1}
 use Rattle.table.specs.Bodies.{Row, input, const, op, pick, for, arg, next, end, out, unknown}
-use Rattle.lowered.specs.Roles.{opNode, stream, gate, guard, copySplit, copyInvariant, carry, argSplit, Wire, start, output, Use, into, result}
+use Rattle.lowered.specs.Roles.{Role, opNode, stream, gate, guard, copySplit, copyInvariant, carry, argSplit, Wire, start, output, Use, into, result}
 use Rattle.faithful.specs.Table.{Table, val, inner, named, opSlot, streamSlot, guardSlot, gateSlot, copySplitSlot, copyInvariantSlot, carrySlot, argSplitSlot, resultSlot, IsFor, wireOf, born, since, slot, isOp, isStart, isArg, isForRow, isIn}
+use Rattle.faithful.specs.Members.{eqb-yes, inLoop, two-in, arg-in}
 
 module _ (tb : Table) where
   -- row r stands in body B, and B is the innermost there
@@ -113,17 +114,11 @@ module _ (tb : Table) where
       go true e unknown q = fromStart (rw (e, q)) (eqb→eq (tb .home v) B (subst T (sym e) tt)) (rw q) (rw (e, q))
       go true e (out x) q = fromStart (rw (e, q)) (eqb→eq (tb .home v) B (subst T (sym e) tt)) (rw q) (rw (e, q))
 
-  -- ---- which use waits until row c
-  pub data ForUse (p : Use) (L : ℕ) : Type 0 where
-    intoStream : (k : Input) → p ≡ into (stream L) k → ForUse p L
-    intoGuard : (k : Input) → p ≡ into (guard L) k → ForUse p L
-    intoSplit : (v : ℕ) → p ≡ into (copySplit L v) in1 → tb .carried L v ≡ true → ForUse p L
-    intoCarry : (a i : ℕ) → p ≡ into (carry a) in1 → tb .row a ≡ arg i → tb .loop a ≡ L → ForUse p L
-
+  -- ---- which use waits until row c: of an OP or PICK there, of a node of the loop whose FOR or END it is, of a result
   pub data When (p : Use) (v B c : ℕ) : Type 0 where
     byOp : (k : Input) → p ≡ into (opNode c) k → isOp tb (tb .row c) ≡ true → When p v B c
-    byFor : IsFor tb c → ForUse p c → B ≡ tb .reads c → When p v B c
-    byEnd : (a i : ℕ) → p ≡ into (carry a) in2 → tb .row a ≡ arg i → c ≡ tb .last (tb .loop a) → B ≡ tb .loop a → v ≡ named (tb .row (tb .nextOf a)) → When p v B c
+    byFor : IsFor tb c → (n : Role) (k : Input) → p ≡ into n k → inLoop tb c n ≡ true → B ≡ tb .reads c → When p v B c
+    byEnd : (L : ℕ) → IsFor tb L → (n : Role) (k : Input) → p ≡ into n k → inLoop tb L n ≡ true → c ≡ tb .last L → B ≡ L → When p v B c
     byOut : (q : ℕ) → p ≡ result q → c ≡ suc (tb .size) → B ≡ tb .size → When p v B c
 
   at-op : (r : ℕ) (k : Input) (v B c : ℕ) → r ≡ c → isOp tb (tb .row r) ≡ true → When (into (opNode r) k) v B c
@@ -146,18 +141,17 @@ module _ (tb : Table) where
   when-op r (out x) k v B c q h = let z : _≡_ {A = ℕ} 0 1 = cc in absurd (omega arith)
 
   -- L is c and B is its body: by the equations
-  at-for : (p : Use) (L v B c : ℕ) → L ≡ c → tb .reads L ≡ B → IsFor tb L → ForUse p L → When p v B c
-  at-for p L v B c e d f g =
-      byFor (subst (IsFor tb) e f) (subst (ForUse p) e g) (sym d ∙ ap (tb .reads) e)
+  at-for : (n : Role) (k : Input) (L v B c : ℕ) → L ≡ c → tb .reads L ≡ B → IsFor tb L → inLoop tb L n ≡ true → When (into n k) v B c
+  at-for n k L v B c e d f i = byFor (subst (IsFor tb) e f) n k refl (subst (λ (z : ℕ). inLoop tb z n ≡ true) e i) (sym d ∙ ap (tb .reads) e)
 
   when-stream : (L : ℕ) (w : Row) (k : Input) (v B c : ℕ) → tb .row L ≡ w → streamSlot w (tb .reads L) L k ≡ val v B c → When (into (stream L) k) v B c
   when-stream L input k v B c q h = let z : _≡_ {A = ℕ} 0 1 = cc in absurd (omega arith)
   when-stream L (const x) k v B c q h = let z : _≡_ {A = ℕ} 0 1 = cc in absurd (omega arith)
   when-stream L (op d x y) k v B c q h = let z : _≡_ {A = ℕ} 0 1 = cc in absurd (omega arith)
   when-stream L (pick f x y) k v B c q h = let z : _≡_ {A = ℕ} 0 1 = cc in absurd (omega arith)
-  when-stream L (for s t b u d) in0 v B c q h = at-for (into (stream L) in0) L v B c (cc) (cc) (s, t, b, u, d, q) (intoStream in0 refl)
-  when-stream L (for s t b u d) in1 v B c q h = at-for (into (stream L) in1) L v B c (cc) (cc) (s, t, b, u, d, q) (intoStream in1 refl)
-  when-stream L (for s t b u d) in2 v B c q h = at-for (into (stream L) in2) L v B c (cc) (cc) (s, t, b, u, d, q) (intoStream in2 refl)
+  when-stream L (for s t b u d) in0 v B c q h = at-for (stream L) in0 L v B c (cc) (cc) (s, t, b, u, d, q) (eqb-yes L)
+  when-stream L (for s t b u d) in1 v B c q h = at-for (stream L) in1 L v B c (cc) (cc) (s, t, b, u, d, q) (eqb-yes L)
+  when-stream L (for s t b u d) in2 v B c q h = at-for (stream L) in2 L v B c (cc) (cc) (s, t, b, u, d, q) (eqb-yes L)
   when-stream L (arg i) k v B c q h = let z : _≡_ {A = ℕ} 0 1 = cc in absurd (omega arith)
   when-stream L (next x) k v B c q h = let z : _≡_ {A = ℕ} 0 1 = cc in absurd (omega arith)
   when-stream L end k v B c q h = let z : _≡_ {A = ℕ} 0 1 = cc in absurd (omega arith)
@@ -169,8 +163,8 @@ module _ (tb : Table) where
   when-guard L (const x) k v B c q h = let z : _≡_ {A = ℕ} 0 1 = cc in absurd (omega arith)
   when-guard L (op d x y) k v B c q h = let z : _≡_ {A = ℕ} 0 1 = cc in absurd (omega arith)
   when-guard L (pick f x y) k v B c q h = let z : _≡_ {A = ℕ} 0 1 = cc in absurd (omega arith)
-  when-guard L (for s t b u d) in0 v B c q h = at-for (into (guard L) in0) L v B c (cc) (cc) (s, t, b, u, d, q) (intoGuard in0 refl)
-  when-guard L (for s t b u d) in1 v B c q h = at-for (into (guard L) in1) L v B c (cc) (cc) (s, t, b, u, d, q) (intoGuard in1 refl)
+  when-guard L (for s t b u d) in0 v B c q h = at-for (guard L) in0 L v B c (cc) (cc) (s, t, b, u, d, q) (eqb-yes L)
+  when-guard L (for s t b u d) in1 v B c q h = at-for (guard L) in1 L v B c (cc) (cc) (s, t, b, u, d, q) (eqb-yes L)
   when-guard L (for s t b u d) in2 v B c q h = let z : _≡_ {A = ℕ} 0 1 = cc in absurd (omega arith)
   when-guard L (arg i) k v B c q h = let z : _≡_ {A = ℕ} 0 1 = cc in absurd (omega arith)
   when-guard L (next x) k v B c q h = let z : _≡_ {A = ℕ} 0 1 = cc in absurd (omega arith)
@@ -186,8 +180,8 @@ module _ (tb : Table) where
   when-carry g a (pick f x y) k v B c q h = let z : _≡_ {A = ℕ} 0 1 = cc in absurd (omega arith)
   when-carry g a (for s t b u d) k v B c q h = let z : _≡_ {A = ℕ} 0 1 = cc in absurd (omega arith)
   when-carry g a (arg i) in0 v B c q h = let z : _≡_ {A = ℕ} 0 1 = cc in absurd (omega arith)
-  when-carry g a (arg i) in1 v B c q h = at-for (into (carry a) in1) (tb .loop a) v B c (cc) (cc) (g .arg-for a i q) (intoCarry a i refl q refl)
-  when-carry g a (arg i) in2 v B c q h = byEnd a i refl q (cc) (cc) (cc)
+  when-carry g a (arg i) in1 v B c q h = at-for (carry a) in1 (tb .loop a) v B c (cc) (cc) (g .arg-for a i q) (arg-in tb (tb .loop a) a refl (ap isArg q))
+  when-carry g a (arg i) in2 v B c q h = byEnd (tb .loop a) (g .arg-for a i q) (carry a) in2 refl (arg-in tb (tb .loop a) a refl (ap isArg q)) (cc) (cc)
   when-carry g a (next x) k v B c q h = let z : _≡_ {A = ℕ} 0 1 = cc in absurd (omega arith)
   when-carry g a end k v B c q h = let z : _≡_ {A = ℕ} 0 1 = cc in absurd (omega arith)
   when-carry g a unknown k v B c q h = let z : _≡_ {A = ℕ} 0 1 = cc in absurd (omega arith)
@@ -196,7 +190,7 @@ module _ (tb : Table) where
   when-split : Good → (L u : ℕ) (b : Bool) (k : Input) (v B c : ℕ) → tb .carried L u ≡ b → copySplitSlot b (tb .reads L) L u k ≡ val v B c → When (into (copySplit L u) k) v B c
   when-split g L u false k v B c q h = let z : _≡_ {A = ℕ} 0 1 = cc in absurd (omega arith)
   when-split g L u true in0 v B c q h = let z : _≡_ {A = ℕ} 0 1 = cc in absurd (omega arith)
-  when-split g L u true in1 v B c q h = at-for (into (copySplit L u) in1) L v B c (cc) (cc) (g .in-for L u q) (intoSplit u refl q)
+  when-split g L u true in1 v B c q h = at-for (copySplit L u) in1 L v B c (cc) (cc) (g .in-for L u q) (two-in tb L u q)
   when-split g L u true in2 v B c q h = let z : _≡_ {A = ℕ} 0 1 = cc in absurd (omega arith)
 
   when-out : (q : ℕ) (r : Row) (v B c : ℕ) → tb .row q ≡ r → resultSlot r (tb .size) (suc (tb .size)) ≡ val v B c → When (result q) v B c
@@ -217,11 +211,11 @@ module _ (tb : Table) where
   not-gate true L in1 v B c h = let z : _≡_ {A = ℕ} 0 1 = cc in omega arith
   not-gate true L in2 v B c h = let z : _≡_ {A = ℕ} 0 1 = cc in omega arith
 
-  not-inv : (L u : ℕ) (b : Bool) (k : Input) (v B c : ℕ) → copyInvariantSlot b L u k ≡ val v B c → ⊥
-  not-inv L u false k v B c h = let z : _≡_ {A = ℕ} 0 1 = cc in omega arith
-  not-inv L u true in0 v B c h = let z : _≡_ {A = ℕ} 0 1 = cc in omega arith
-  not-inv L u true in1 v B c h = let z : _≡_ {A = ℕ} 0 1 = cc in omega arith
-  not-inv L u true in2 v B c h = let z : _≡_ {A = ℕ} 0 1 = cc in omega arith
+  when-inv : Good → (L u : ℕ) (b : Bool) (k : Input) (v B c : ℕ) → tb .carried L u ≡ b → copyInvariantSlot b (tb .reads L) L u k ≡ val v B c → When (into (copyInvariant L u) k) v B c
+  when-inv g L u false k v B c q h = let z : _≡_ {A = ℕ} 0 1 = cc in absurd (omega arith)
+  when-inv g L u true in0 v B c q h = let z : _≡_ {A = ℕ} 0 1 = cc in absurd (omega arith)
+  when-inv g L u true in1 v B c q h = let z : _≡_ {A = ℕ} 0 1 = cc in absurd (omega arith)
+  when-inv g L u true in2 v B c q h = let z : _≡_ {A = ℕ} 0 1 = cc in absurd (omega arith)
 
   not-asplit : (b : Bool) (L a : ℕ) (k : Input) (v B c : ℕ) → argSplitSlot b L a k ≡ val v B c → ⊥
   not-asplit false L a k v B c h = let z : _≡_ {A = ℕ} 0 1 = cc in omega arith
@@ -235,21 +229,25 @@ module _ (tb : Table) where
   when g (into (gate L) k) v B c h = absurd (not-gate (isForRow (tb .row L)) L k v B c h)
   when g (into (guard L) k) v B c h = when-guard L (tb .row L) k v B c refl h
   when g (into (copySplit L u) k) v B c h = when-split g L u (tb .carried L u) k v B c refl h
-  when g (into (copyInvariant L u) k) v B c h = absurd (not-inv L u (tb .carried L u) k v B c h)
+  when g (into (copyInvariant L u) k) v B c h = when-inv g L u (tb .carried L u) k v B c refl h
   when g (into (carry a) k) v B c h = when-carry g a (tb .row a) k v B c refl h
   when g (into (argSplit a) k) v B c h = absurd (not-asplit (isArg (tb .row a)) (tb .loop a) a k v B c h)
   when g (result q) v B c h = when-out q (tb .row q) v B c refl h
 
-  -- ---- inner uses
-  pub data Inward (p : Use) (w : Wire) : Type 0 where
-    gateIndex : (L : ℕ) → p ≡ into (gate L) in0 → w ≡ output (stream L) out0 → isForRow (tb .row L) ≡ true → Inward p w
-    gateCondition : (L : ℕ) → p ≡ into (gate L) in1 → w ≡ output (stream L) out1 → isForRow (tb .row L) ≡ true → Inward p w
-    splitGuard : (L v : ℕ) → p ≡ into (copySplit L v) in0 → w ≡ output (guard L) out0 → tb .carried L v ≡ true → Inward p w
-    copyCondition : (L v : ℕ) → p ≡ into (copyInvariant L v) in0 → w ≡ output (gate L) out1 → tb .carried L v ≡ true → Inward p w
-    copySeed : (L v : ℕ) → p ≡ into (copyInvariant L v) in1 → w ≡ output (copySplit L v) out0 → tb .carried L v ≡ true → Inward p w
-    carryCondition : (a i : ℕ) → p ≡ into (carry a) in0 → w ≡ output (stream (tb .loop a)) out1 → tb .row a ≡ arg i → Inward p w
-    argCondition : (a : ℕ) → p ≡ into (argSplit a) in0 → w ≡ output (stream (tb .loop a)) out1 → isArg (tb .row a) ≡ true → Inward p w
-    argCarried : (a : ℕ) → p ≡ into (argSplit a) in1 → w ≡ output (carry a) out0 → isArg (tb .row a) ≡ true → Inward p w
+  -- ---- inner uses: an input of a node of a loop reads an output of a node of the same loop
+  pub record Inward (p : Use) (w : Wire) : Type 0 where
+    pub loop : ℕ
+    pub node : Role
+    pub place : Input
+    pub from : Role
+    pub leg : Output
+    pub use-is : p ≡ into node place
+    pub wire-is : w ≡ output from leg
+    pub node-in : inLoop tb loop node ≡ true
+    pub from-in : inLoop tb loop from ≡ true
+
+  within : (L : ℕ) (n : Role) (k : Input) (m : Role) (o : Output) (w : Wire) → w ≡ output m o → inLoop tb L n ≡ true → inLoop tb L m ≡ true → Inward (into n k) w
+  within L n k m o w e i j = record { loop = L; node = n; place = k; from = m; leg = o; use-is = refl; wire-is = e; node-in = i; from-in = j }
 
   in-op : (r : ℕ) (d : Row) (k : Input) (w : Wire) → opSlot d (tb .reads r) r k ≡ inner w → ⊥
   in-op r input k w h = let z : _≡_ {A = ℕ} 0 1 = cc in omega arith
@@ -313,7 +311,7 @@ module _ (tb : Table) where
   in-carry a (op d y u) B L x e k w q l h = let z : _≡_ {A = ℕ} 0 1 = cc in absurd (omega arith)
   in-carry a (pick f y u) B L x e k w q l h = let z : _≡_ {A = ℕ} 0 1 = cc in absurd (omega arith)
   in-carry a (for s t b u d) B L x e k w q l h = let z : _≡_ {A = ℕ} 0 1 = cc in absurd (omega arith)
-  in-carry a (arg i) B L x e in0 w q l h = carryCondition a i refl (cc) q
+  in-carry a (arg i) B L x e in0 w q l h = let y = arg-in tb (tb .loop a) a refl (ap isArg q) in within (tb .loop a) (carry a) in0 (stream (tb .loop a)) out1 w (cc) y (eqb-yes (tb .loop a))
   in-carry a (arg i) B L x e in1 w q l h = let z : _≡_ {A = ℕ} 0 1 = cc in absurd (omega arith)
   in-carry a (arg i) B L x e in2 w q l h = let z : _≡_ {A = ℕ} 0 1 = cc in absurd (omega arith)
   in-carry a (next y) B L x e k w q l h = let z : _≡_ {A = ℕ} 0 1 = cc in absurd (omega arith)
@@ -323,26 +321,26 @@ module _ (tb : Table) where
 
   in-split : (L u : ℕ) (b : Bool) (k : Input) (w : Wire) → tb .carried L u ≡ b → copySplitSlot b (tb .reads L) L u k ≡ inner w → Inward (into (copySplit L u) k) w
   in-split L u false k w q h = let z : _≡_ {A = ℕ} 0 1 = cc in absurd (omega arith)
-  in-split L u true in0 w q h = splitGuard L u refl (cc) q
+  in-split L u true in0 w q h = within L (copySplit L u) in0 (guard L) out0 w (cc) (two-in tb L u q) (eqb-yes L)
   in-split L u true in1 w q h = let z : _≡_ {A = ℕ} 0 1 = cc in absurd (omega arith)
   in-split L u true in2 w q h = let z : _≡_ {A = ℕ} 0 1 = cc in absurd (omega arith)
 
   in-gate : (L : ℕ) (b : Bool) (k : Input) (w : Wire) → isForRow (tb .row L) ≡ b → gateSlot b L k ≡ inner w → Inward (into (gate L) k) w
   in-gate L false k w q h = let z : _≡_ {A = ℕ} 0 1 = cc in absurd (omega arith)
-  in-gate L true in0 w q h = gateIndex L refl (cc) q
-  in-gate L true in1 w q h = gateCondition L refl (cc) q
+  in-gate L true in0 w q h = within L (gate L) in0 (stream L) out0 w (cc) (eqb-yes L) (eqb-yes L)
+  in-gate L true in1 w q h = within L (gate L) in1 (stream L) out1 w (cc) (eqb-yes L) (eqb-yes L)
   in-gate L true in2 w q h = let z : _≡_ {A = ℕ} 0 1 = cc in absurd (omega arith)
 
-  in-inv : (L u : ℕ) (b : Bool) (k : Input) (w : Wire) → tb .carried L u ≡ b → copyInvariantSlot b L u k ≡ inner w → Inward (into (copyInvariant L u) k) w
+  in-inv : (L u : ℕ) (b : Bool) (k : Input) (w : Wire) → tb .carried L u ≡ b → copyInvariantSlot b (tb .reads L) L u k ≡ inner w → Inward (into (copyInvariant L u) k) w
   in-inv L u false k w q h = let z : _≡_ {A = ℕ} 0 1 = cc in absurd (omega arith)
-  in-inv L u true in0 w q h = copyCondition L u refl (cc) q
-  in-inv L u true in1 w q h = copySeed L u refl (cc) q
+  in-inv L u true in0 w q h = within L (copyInvariant L u) in0 (gate L) out1 w (cc) (two-in tb L u q) (eqb-yes L)
+  in-inv L u true in1 w q h = within L (copyInvariant L u) in1 (copySplit L u) out0 w (cc) (two-in tb L u q) (two-in tb L u q)
   in-inv L u true in2 w q h = let z : _≡_ {A = ℕ} 0 1 = cc in absurd (omega arith)
 
   in-asplit : (a : ℕ) (b : Bool) (k : Input) (w : Wire) → isArg (tb .row a) ≡ b → argSplitSlot b (tb .loop a) a k ≡ inner w → Inward (into (argSplit a) k) w
   in-asplit a false k w q h = let z : _≡_ {A = ℕ} 0 1 = cc in absurd (omega arith)
-  in-asplit a true in0 w q h = argCondition a refl (cc) q
-  in-asplit a true in1 w q h = argCarried a refl (cc) q
+  in-asplit a true in0 w q h = within (tb .loop a) (argSplit a) in0 (stream (tb .loop a)) out1 w (cc) (arg-in tb (tb .loop a) a refl q) (eqb-yes (tb .loop a))
+  in-asplit a true in1 w q h = within (tb .loop a) (argSplit a) in1 (carry a) out0 w (cc) (arg-in tb (tb .loop a) a refl q) (arg-in tb (tb .loop a) a refl q)
   in-asplit a true in2 w q h = let z : _≡_ {A = ℕ} 0 1 = cc in absurd (omega arith)
 
   pub inward : (p : Use) (w : Wire) → slot tb p ≡ inner w → Inward p w

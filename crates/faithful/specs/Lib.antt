@@ -1,6 +1,7 @@
 -- The lowered table means what it says. Start with Statements.
 -- A table by its structure, and its configuration where the reading stands.
 pub mod Table
+pub mod Members
 pub mod Good
 pub mod Gamma
 -- One step of the reading: rows, then loops.

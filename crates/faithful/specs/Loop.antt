@@ -1,9 +1,9 @@
--- One loop: the roles that belong to it, the values that they give, and the uses that they take.
+-- One loop: effects of its roles, the values that they give, and the uses that they take.
 --
---   inLoop, only              the loop's roles; effects of them alone
+--   only                      effects of the loop's roles alone
 --   loop-stage                those of them that are ready fire together
 --   Fill, fill                which of the loop's nodes gives on the wire of a value in a body: the index, an ARG, a copy, an exit word, none
---   Taking, taking            which of them takes a use: at FOR, at END, none
+--   Taking, taking            whether one of them takes a use
 --
 -- Assumes nothing.
 use mathlib.Core.Path.{_≡_, refl, sym, ap, ap₂, _∙_, subst}
@@ -14,110 +14,41 @@ use mathlib.Core.List.{List, [], _∷_, _++_}
 use Prim.Native.Nat.{ℕ, zero, suc, _+_, _≤_, _<_}
 use native.Mathlib.Omega.{arith}
 use native.Mathlib.Decide.{ℕ-discrete}
-use lib.Dec.{T, eqb, eqb→eq, eqb-refl}
-use Rattle.step.specs.Kinds.{Input, in1, in2, Output, out0, out1}
+use lib.Dec.{eqb}
+use Rattle.step.specs.Kinds.{Input, Output, out0, out1}
 use Rattle.step.specs.Firing.{Effect}
 use Rattle.table.specs.Bodies.{Row, input, const, op, pick, for, arg, next, end, out, unknown}
 use Rattle.lowered.specs.Lists.{Among, among-left, among-right}
 use Rattle.lowered.specs.Roles.{Role, opNode, stream, gate, guard, copySplit, copyInvariant, carry, argSplit, Wire, output, Use, into}
 use Rattle.uses.specs.Machine.{State, giveBy, takeBy, given, taken, after, Ready, Steps, stage-cover, those}
 use Rattle.faithful.specs.Table.{Table, val, IsFor, wireOf, since, slot, isOp, isArg, plan}
-use Rattle.faithful.specs.Good.{Inner, Good, Source, fromStart, fromOp, fromFor, fromArg, fromNext, fromCopy, source, ForUse, intoStream, intoGuard, intoSplit, intoCarry, When, byOp, byFor, byEnd, byOut, when}
+use Rattle.faithful.specs.Good.{Inner, Good, Source, fromStart, fromOp, fromFor, fromArg, fromNext, fromCopy, source, When, byOp, byFor, byEnd, byOut, when}
 use Rattle.faithful.specs.Gamma.{for-not-end}
+use Rattle.faithful.specs.Members.{eqb-yes, eqb-no, is-eqb, inLoop, arg-row, in-two, in-arg, two-in, arg-in, two-out}
 
 abbrev pub keepIf : Bool → Option Effect → Option Effect
 keepIf true x = x
 keepIf false x = none
 
-pub eqb-yes : (u : ℕ) → eqb u u ≡ true
-eqb-yes u = go (eqb u u) refl
-  where
-    go : (b : Bool) → eqb u u ≡ b → eqb u u ≡ true
-    go true e = e
-    go false e = absurd (subst T e (eqb-refl u))
-
-pub eqb-no : (u w : ℕ) → u ≢ w → eqb u w ≡ false
-eqb-no u w n = go (eqb u w) refl
-  where
-    go : (b : Bool) → eqb u w ≡ b → eqb u w ≡ false
-    go true e = absurd (n (eqb→eq u w (subst T (sym e) tt)))
-    go false e = e
-
-pub is-eqb : (u w : ℕ) → eqb u w ≡ true → u ≡ w
-is-eqb u w h = eqb→eq u w (subst T (sym h) tt)
-
-and-l : (a b : Bool) → (a && b) ≡ true → a ≡ true
-and-l true b h = refl
-and-l false b h = h
-
-and-r : (a b : Bool) → (a && b) ≡ true → b ≡ true
-and-r true b h = h
-and-r false b h = let z : _≡_ {A = ℕ} 0 1 = cc in absurd (omega arith)
-
-and-no : (a b : Bool) → a ≡ false → (a && b) ≡ false
-and-no true b h = let z : _≡_ {A = ℕ} 0 1 = cc in absurd (omega arith)
-and-no false b h = refl
-
 module _ (tb : Table) where
-  -- the roles of loop L
-  abbrev pub inLoop : ℕ → Role → Bool
-  inLoop L (opNode r) = false
-  inLoop L (stream M) = eqb M L
-  inLoop L (gate M) = eqb M L
-  inLoop L (guard M) = eqb M L
-  inLoop L (copySplit M v) = eqb M L && tb .carried M v
-  inLoop L (copyInvariant M v) = eqb M L && tb .carried M v
-  inLoop L (carry a) = eqb (tb .loop a) L && isArg (tb .row a)
-  inLoop L (argSplit a) = eqb (tb .loop a) L && isArg (tb .row a)
-
   unfoldable pub only : ℕ → (Role → Option Effect) → Role → Option Effect
-  only L eff n = keepIf (inLoop L n) (eff n)
+  only L eff n = keepIf (inLoop tb L n) (eff n)
 
-  pub only-yes : (L : ℕ) (eff : Role → Option Effect) (n : Role) → inLoop L n ≡ true → only L eff n ≡ eff n
+  pub only-yes : (L : ℕ) (eff : Role → Option Effect) (n : Role) → inLoop tb L n ≡ true → only L eff n ≡ eff n
   unfolding only
   only-yes L eff n h = rw h
 
-  pub only-no : (L : ℕ) (eff : Role → Option Effect) (n : Role) → inLoop L n ≡ false → only L eff n ≡ none
+  pub only-no : (L : ℕ) (eff : Role → Option Effect) (n : Role) → inLoop tb L n ≡ false → only L eff n ≡ none
   unfolding only
   only-no L eff n h = rw h
 
-  pub only-some : (L : ℕ) (eff : Role → Option Effect) (n : Role) (e : Effect) → only L eff n ≡ some e → (inLoop L n ≡ true) × (eff n ≡ some e)
+  pub only-some : (L : ℕ) (eff : Role → Option Effect) (n : Role) (e : Effect) → only L eff n ≡ some e → (inLoop tb L n ≡ true) × (eff n ≡ some e)
   unfolding only
-  only-some L eff n e h = go (inLoop L n) refl h
+  only-some L eff n e h = go (inLoop tb L n) refl h
     where
-      go : (b : Bool) → inLoop L n ≡ b → keepIf b (eff n) ≡ some e → (inLoop L n ≡ true) × (eff n ≡ some e)
+      go : (b : Bool) → inLoop tb L n ≡ b → keepIf b (eff n) ≡ some e → (inLoop tb L n ≡ true) × (eff n ≡ some e)
       go true q k = (q, k)
       go false q k = let z : _≡_ {A = ℕ} 0 1 = cc in absurd (omega arith)
-
-  pub arg-row : (a : ℕ) → isArg (tb .row a) ≡ true → (i : ℕ) × (tb .row a ≡ arg i)
-  arg-row a h = go (tb .row a) refl h
-    where
-      go : (d : Row) → tb .row a ≡ d → isArg d ≡ true → (i : ℕ) × (tb .row a ≡ arg i)
-      go input q k = let z : _≡_ {A = ℕ} 0 1 = cc in absurd (omega arith)
-      go (const x) q k = let z : _≡_ {A = ℕ} 0 1 = cc in absurd (omega arith)
-      go (op c x y) q k = let z : _≡_ {A = ℕ} 0 1 = cc in absurd (omega arith)
-      go (pick c x y) q k = let z : _≡_ {A = ℕ} 0 1 = cc in absurd (omega arith)
-      go (for s t b u c) q k = let z : _≡_ {A = ℕ} 0 1 = cc in absurd (omega arith)
-      go (arg i) q k = (i, q)
-      go (next x) q k = let z : _≡_ {A = ℕ} 0 1 = cc in absurd (omega arith)
-      go end q k = let z : _≡_ {A = ℕ} 0 1 = cc in absurd (omega arith)
-      go unknown q k = let z : _≡_ {A = ℕ} 0 1 = cc in absurd (omega arith)
-      go (out x) q k = let z : _≡_ {A = ℕ} 0 1 = cc in absurd (omega arith)
-
-  pub in-two : (L M v : ℕ) → (eqb M L && tb .carried M v) ≡ true → (M ≡ L) × (tb .carried M v ≡ true)
-  in-two L M v h = (is-eqb M L (and-l (eqb M L) (tb .carried M v) h), and-r (eqb M L) (tb .carried M v) h)
-
-  pub in-arg : (L a : ℕ) → (eqb (tb .loop a) L && isArg (tb .row a)) ≡ true → (tb .loop a ≡ L) × (isArg (tb .row a) ≡ true)
-  in-arg L a h = (is-eqb (tb .loop a) L (and-l (eqb (tb .loop a) L) (isArg (tb .row a)) h), and-r (eqb (tb .loop a) L) (isArg (tb .row a)) h)
-
-  pub two-in : (L v : ℕ) → tb .carried L v ≡ true → (eqb L L && tb .carried L v) ≡ true
-  two-in L v h = rw (eqb-yes L, h)
-
-  pub arg-in : (L a : ℕ) → tb .loop a ≡ L → isArg (tb .row a) ≡ true → (eqb (tb .loop a) L && isArg (tb .row a)) ≡ true
-  arg-in L a e h = rw (e, eqb-yes L, h)
-
-  pub two-out : (L M : ℕ) (b : Bool) → M ≢ L → (eqb M L && b) ≡ false
-  two-out L M b n = and-no (eqb M L) b (eqb-no M L n)
 
   -- a list of them
   abbrev pub argRoles : ℕ → ℕ → List Role
@@ -246,11 +177,10 @@ module _ (tb : Table) (g : Good tb) (L : ℕ) (f : IsFor tb L) where
             | no e ↦ fillsNone (λ d _. e d) (λ x q l d. h d) (gives-no v B (copyInvariant B v) out0 w (two-out tb L B (tb .carried B v) e))
           ]
 
-  -- ---- what the loop takes from a use
-  pub data Taking (p : Use) (B c : ℕ) : Type 0 where
-    takenByFor : ForUse tb p L → c ≡ L → B ≡ tb .reads L → Taking p B c
-    takenByEnd : (a i : ℕ) → p ≡ into (carry a) in2 → tb .row a ≡ arg i → tb .loop a ≡ L → c ≡ tb .last L → B ≡ L → Taking p B c
-    takenByNone : c ≢ L → c ≢ tb .last L → ((eff : Role → Option Effect) → taken (only tb L eff) p ≡ false) → Taking p B c
+  -- ---- what the loop takes from a use: it is an input of one of its nodes, or it is not taken, and waits until neither FOR nor END
+  pub data Taking (p : Use) (c : ℕ) : Type 0 where
+    takenBy : (n : Role) (k : Input) → p ≡ into n k → inLoop tb L n ≡ true → Taking p c
+    takenByNone : c ≢ L → c ≢ tb .last L → ((eff : Role → Option Effect) → taken (only tb L eff) p ≡ false) → Taking p c
 
   pub takes-yes : (p : Use) (n : Role) (k : Input) → p ≡ into n k → inLoop tb L n ≡ true → (eff : Role → Option Effect) → taken (only tb L eff) p ≡ takeBy (eff n) k
   takes-yes p n k e h eff = ap (taken (only tb L eff)) e ∙ ap (λ (z : Option Effect). takeBy z k) (only-yes tb L eff n h)
@@ -258,29 +188,32 @@ module _ (tb : Table) (g : Good tb) (L : ℕ) (f : IsFor tb L) where
   pub takes-no : (p : Use) (n : Role) (k : Input) → p ≡ into n k → inLoop tb L n ≡ false → (eff : Role → Option Effect) → taken (only tb L eff) p ≡ false
   takes-no p n k e h eff = ap (taken (only tb L eff)) e ∙ ap (λ (z : Option Effect). takeBy z k) (only-no tb L eff n h)
 
-  pub taking : (p : Use) (v B c : ℕ) → slot tb p ≡ val v B c → Taking p B c
+  pub taking : (p : Use) (v B c : ℕ) → slot tb p ≡ val v B c → Taking p c
   taking p v B c q = go (when tb g p v B c q)
     where
-      last-not : IsFor tb c → c ≢ tb .last L
-      last-not h = for-not-end tb g c (tb .last L) h (g .for-end L f)
+      by : (n : Role) (k : Input) → p ≡ into n k → (inLoop tb L n ≡ false → (c ≢ L) × (c ≢ tb .last L)) → Taking p c
+      by n k e h = at (inLoop tb L n) refl
+        where
+          at : (x : Bool) → inLoop tb L n ≡ x → Taking p c
+          at true i = takenBy n k e i
+          at false i = let y = h i in takenByNone (y .0) (y .1) (takes-no p n k e i)
 
-      other : IsFor tb c → c ≢ L → ForUse tb p c → Taking p B c
-      other h n (intoStream k e) = takenByNone n (last-not h) (takes-no p (stream c) k e (eqb-no c L n))
-      other h n (intoGuard k e) = takenByNone n (last-not h) (takes-no p (guard c) k e (eqb-no c L n))
-      other h n (intoSplit x e d) = takenByNone n (last-not h) (takes-no p (copySplit c x) in1 e (two-out tb L c (tb .carried c x) n))
-      other h n (intoCarry a i e d l) = takenByNone n (last-not h) (takes-no p (carry a) in1 e (two-out tb L (tb .loop a) (isArg (tb .row a)) (λ y. n (sym l ∙ y))))
+      -- not of L, so of another loop
+      other : (M : ℕ) (n : Role) → inLoop tb M n ≡ true → inLoop tb L n ≡ false → M ≢ L
+      other M n i j e = let z : true ≡ false = sym i ∙ ap (λ (y : ℕ). inLoop tb y n) e ∙ j in let z : _≡_ {A = ℕ} 0 1 = cc in omega arith
 
-      go : When tb p v B c → Taking p B c
+      go : When tb p v B c → Taking p c
       go (byOp k e h) =
-          takenByNone (λ y. let r = f .5 in let h′ : isOp tb (tb .row L) ≡ true = subst (λ (z : ℕ). isOp tb (tb .row z) ≡ true) y h in let z : _≡_ {A = ℕ} 0 1 = cc in omega arith)
-          (λ y. let r = g .for-end L f in let h′ : isOp tb (tb .row (tb .last L)) ≡ true = subst (λ (z : ℕ). isOp tb (tb .row z) ≡ true) y h in let z : _≡_ {A = ℕ} 0 1 = cc in omega arith)
-          (takes-no p (opNode c) k e refl)
-      go (byFor h w b) = elim (ℕ-discrete c L) [ yes y ↦ takenByFor (subst (ForUse tb p) y w) y (b ∙ ap (tb .reads) y) | no y ↦ other h y w ]
-      go (byEnd a i e h l b _) =
-          elim (ℕ-discrete (tb .loop a) L) [
-            | yes y ↦ takenByEnd a i e h y (l ∙ ap (tb .last) y) (b ∙ y)
-            | no y ↦ takenByNone (λ d. for-not-end tb g L (tb .last (tb .loop a)) f (g .for-end (tb .loop a) (g .arg-for a i h)) (sym d ∙ l))
-                (λ d. y (sym (g .end-loop (tb .loop a) (g .arg-for a i h)) ∙ ap (tb .loop) (sym l ∙ d) ∙ g .end-loop L f))
-                (takes-no p (carry a) in2 e (two-out tb L (tb .loop a) (isArg (tb .row a)) y))
-          ]
+          by (opNode c) k e
+          (λ _. (
+            λ y. let r = f .5 in let h′ : isOp tb (tb .row L) ≡ true = subst (λ (z : ℕ). isOp tb (tb .row z) ≡ true) y h in let z : _≡_ {A = ℕ} 0 1 = cc in omega arith,
+            λ y. let r = g .for-end L f in let h′ : isOp tb (tb .row (tb .last L)) ≡ true = subst (λ (z : ℕ). isOp tb (tb .row z) ≡ true) y h in let z : _≡_ {A = ℕ} 0 1 = cc in omega arith,
+          ))
+      go (byFor h n k e i b) = by n k e (λ j. (other c n i j, for-not-end tb g c (tb .last L) h (g .for-end L f)))
+      go (byEnd M h n k e i l b) =
+          by n k e
+          (λ j. (
+            λ d. for-not-end tb g L (tb .last M) f (g .for-end M h) (sym d ∙ l),
+            λ d. other M n i j (sym (g .end-loop M h) ∙ ap (tb .loop) (sym l ∙ d) ∙ g .end-loop L f),
+          ))
       go (byOut x e l b) = takenByNone (let a = for-below in omega arith) (let a = g .for-size L f in omega arith) (λ eff. ap (taken (only tb L eff)) e)

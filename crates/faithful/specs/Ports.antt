@@ -1,27 +1,28 @@
 -- What the inputs of a loop's nodes read, each by its role.
 --
---   Port, port                an inner link, a value's use that waits until the FOR or until the END, or nothing
+--   Port, port                an output of the same loop, a value that waits until the FOR or until the END, or nothing
 --   PortIs, port-is           it does
 --   kinds                     a role holds its record inside the loop, or holds nothing
 --
 -- Assumes nothing.
-use mathlib.Core.Path.{_≡_, refl, ap}
+use mathlib.Core.Path.{_≡_, refl, ap, _∙_}
 use mathlib.Core.Logic.{_⊎_, inl, inr}
 use mathlib.Core.Bool.{true}
 use Prim.Native.Nat.{ℕ}
-use Rattle.step.specs.Kinds.{Input, in0, in1, in2}
+use lib.Dec.{eqb}
+use Rattle.step.specs.Kinds.{Input, in0, in1, in2, Output, out0, out1}
 use Rattle.step.specs.Machines.{rest}
 use Rattle.table.specs.Bodies.{for}
 use Rattle.lowered.specs.Roles.{Role, opNode, stream, gate, guard, copySplit, copyInvariant, carry, argSplit, into}
-use Rattle.faithful.specs.Table.{Table, val, named, IsFor, slot, isArg}
+use Rattle.faithful.specs.Table.{Table, val, absent, named, IsFor, slot, isArg}
 use Rattle.faithful.specs.Good.{Good}
 use Rattle.faithful.specs.Gamma.{Env, scope, held}
-use Rattle.faithful.specs.Loop.{inLoop}
-use Rattle.faithful.specs.Stages.{Inlet, gate0, gate1, split0, inv0, inv1, carry0, arg0, arg1, inletNode, inletInput, InletOf, by-role}
+use Rattle.faithful.specs.Members.{inLoop, eqb-yes, two-in, arg-in}
+use Rattle.faithful.specs.Stages.{Link, by-role}
 use Rattle.faithful.specs.Turn.{From, atFor, atEnd, rowOf, bodyOf}
 
 pub data Port : Type 0 where
-  link : Inlet → Port
+  link : Role → Output → Port
   waits : From → ℕ → Port
   nothing : Port
 
@@ -32,23 +33,23 @@ module _ (tb : Table) (s t b : ℕ) where
   port (stream M) in0 = waits atFor s
   port (stream M) in1 = waits atFor t
   port (stream M) in2 = waits atFor b
-  port (gate M) in0 = link gate0
-  port (gate M) in1 = link gate1
+  port (gate M) in0 = link (stream M) out0
+  port (gate M) in1 = link (stream M) out1
   port (gate M) in2 = nothing
   port (guard M) in0 = waits atFor s
   port (guard M) in1 = waits atFor b
   port (guard M) in2 = nothing
-  port (copySplit M v) in0 = link (split0 v)
+  port (copySplit M v) in0 = link (guard M) out0
   port (copySplit M v) in1 = waits atFor v
   port (copySplit M v) in2 = nothing
-  port (copyInvariant M v) in0 = link (inv0 v)
-  port (copyInvariant M v) in1 = link (inv1 v)
+  port (copyInvariant M v) in0 = link (gate M) out1
+  port (copyInvariant M v) in1 = link (copySplit M v) out0
   port (copyInvariant M v) in2 = nothing
-  port (carry a) in0 = link (carry0 a)
+  port (carry a) in0 = link (stream (tb .loop a)) out1
   port (carry a) in1 = waits atFor (named (tb .row a))
   port (carry a) in2 = waits atEnd (named (tb .row (tb .nextOf a)))
-  port (argSplit a) in0 = link (arg0 a)
-  port (argSplit a) in1 = link (arg1 a)
+  port (argSplit a) in0 = link (stream (tb .loop a)) out1
+  port (argSplit a) in1 = link (carry a) out0
   port (argSplit a) in2 = nothing
 
 module _ (tb : Table) (g : Good tb) (L s t b u c : ℕ) (q : tb .row L ≡ for s t b u c) where
@@ -56,20 +57,23 @@ module _ (tb : Table) (g : Good tb) (L s t b u c : ℕ) (q : tb .row L ≡ for s
   isfor = (s, t, b, u, c, q)
 
   abbrev pub PortIs : Role → Input → Port → Type 0
-  PortIs n k (link x) = InletOf tb g L isfor x × (into n k ≡ into (inletNode L x) (inletInput x))
+  PortIs n k (link m o) = Link tb g L isfor n k m o
   PortIs n k (waits at v) = slot tb (into n k) ≡ val v (bodyOf tb L at) (rowOf tb L at)
-  PortIs n k nothing = Unit {0}
+  PortIs n k nothing = slot tb (into n k) ≡ absent
 
   ports : (n : Role) → inLoop tb L n ≡ true → PortIs n in0 (port tb s t b n in0) × PortIs n in1 (port tb s t b n in1) × PortIs n in2 (port tb s t b n in2)
   ports =
       by-role tb g L isfor (λ (n : Role). PortIs n in0 (port tb s t b n in0) × PortIs n in1 (port tb s t b n in1) × PortIs n in2 (port tb s t b n in2))
       (rw q, rw q, rw q)
-      ((tt, refl), (tt, refl), tt)
-      (rw q, rw q, tt)
-      (λ v h. ((h, refl), rw h, tt))
-      (λ v h. ((h, refl), (h, refl), tt))
-      (λ a i h l. (((l, ap isArg h), refl), rw (h, l), rw (h, l)))
-      (λ a i h l. (((l, ap isArg h), refl), ((l, ap isArg h), refl), tt))
+      (record { reads = rw q; node-in = eqb-yes L; from-in = eqb-yes L }, record { reads = rw q; node-in = eqb-yes L; from-in = eqb-yes L }, rw q)
+      (rw q, rw q, rw q)
+      (λ v h. (record { reads = rw h; node-in = two-in tb L v h; from-in = eqb-yes L }, rw h, rw h))
+      (λ v h. (record { reads = rw h; node-in = two-in tb L v h; from-in = eqb-yes L }, record { reads = rw h; node-in = two-in tb L v h; from-in = two-in tb L v h }, rw h))
+      (λ a i h l. (record { reads = rw h; node-in = arg-in tb L a l (ap isArg h); from-in = of-loop l }, rw (h, l), rw (h, l)))
+      (λ a i h l. (record { reads = rw h; node-in = arg-in tb L a l (ap isArg h); from-in = of-loop l }, record { reads = rw h; node-in = arg-in tb L a l (ap isArg h); from-in = arg-in tb L a l (ap isArg h) }, rw h))
+    where
+      of-loop : {M : ℕ} → M ≡ L → eqb M L ≡ true
+      of-loop e = ap (λ (z : ℕ). eqb z L) e ∙ eqb-yes L
 
   pub port-is : (n : Role) → inLoop tb L n ≡ true → (k : Input) → PortIs n k (port tb s t b n k)
   port-is n h in0 = ports n h .0

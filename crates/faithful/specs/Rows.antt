@@ -24,7 +24,8 @@ use Rattle.table.specs.Bodies.{Row, input, const, op, pick, for, arg, next, end
 use Rattle.lowered.specs.Roles.{Role, sameRole, opNode, stream, gate, guard, copySplit, copyInvariant, carry, argSplit, Wire, start, output, Use, into, result}
 use Rattle.uses.specs.Machine.{State, giveBy, takeBy, nextBy, put, drop, listed, given, taken, viewOf, after, one, one-same, one-other, Steps}
 use Rattle.faithful.specs.Table.{Table, Slot, val, inner, absent, IsFor, wireOf, since, slot, slotWire, src, isOp, isStart, Real, programOf, plan}
-use Rattle.faithful.specs.Good.{Inner, Good, Source, fromStart, fromOp, fromFor, fromArg, fromNext, fromCopy, source, intoStream, intoGuard, intoSplit, intoCarry, When, byOp, byFor, byEnd, byOut, when, Inward, gateIndex, gateCondition, splitGuard, copyCondition, copySeed, carryCondition, argCondition, argCarried, inward}
+use Rattle.faithful.specs.Good.{Inner, Good, Source, fromStart, fromOp, fromFor, fromArg, fromNext, fromCopy, source, When, byOp, byFor, byEnd, byOut, when, Inward, inward}
+use Rattle.faithful.specs.Members.{no-op}
 use Rattle.faithful.specs.Gamma.{Env, Inside, Shows, scope, held, Gamma, shows-same, shows-none, shows-some, before, head-row, held-same}
 
 -- env with the word w at row r
@@ -148,9 +149,9 @@ module _ (tb : Table) (g : Good tb) where
       go end a b = let z : _≡_ {A = ℕ} 0 1 = cc in omega arith
       go unknown a b = let z : _≡_ {A = ℕ} 0 1 = cc in omega arith
       go (out x) a b = let z : _≡_ {A = ℕ} 0 1 = cc in omega arith
-  when-plain r h l p v B c (byFor f _ _) e = let q = subst (IsFor tb) e f in let k = q .5 in let z : _≡_ {A = ℕ} 0 1 = cc in omega arith
-  when-plain r h l p v B c (byEnd a i _ q d _ _) e =
-      let k : tb .row r ≡ end = ap (tb .row) (sym e ∙ d) ∙ g .for-end (tb .loop a) (g .arg-for a i q) in let z : _≡_ {A = ℕ} 0 1 = cc in omega arith
+  when-plain r h l p v B c (byFor f _ _ _ _ _) e = let q = subst (IsFor tb) e f in let k = q .5 in let z : _≡_ {A = ℕ} 0 1 = cc in omega arith
+  when-plain r h l p v B c (byEnd L f _ _ _ _ d _) e =
+      let k : tb .row r ≡ end = ap (tb .row) (sym e ∙ d) ∙ g .for-end L f in let z : _≡_ {A = ℕ} 0 1 = cc in omega arith
   when-plain r h l p v B c (byOut q _ d _) e = omega arith
 
   pub step-plain : (r : ℕ) → r < tb .size → plainRow (tb .row r) ≡ true → (env : Env) (s : State) → Gamma tb r env s → Gamma tb (suc r) env s
@@ -317,12 +318,8 @@ module _ (tb : Table) (g : Good tb) where
               | yes y ↦ took p k v B c q (d ∙ ap (λ (z : ℕ). into (opNode z) k) y) y
               | no y ↦ kept p v B c q y (λ k′ d′. y (cc))
             ]
-        go (byFor f (intoStream k d) h) = kept p v B c q (λ y. no-for (subst (IsFor tb) y f)) (λ k′ d′. let z : _≡_ {A = ℕ} 0 1 = cc in omega arith)
-        go (byFor f (intoGuard k d) h) = kept p v B c q (λ y. no-for (subst (IsFor tb) y f)) (λ k′ d′. let z : _≡_ {A = ℕ} 0 1 = cc in omega arith)
-        go (byFor f (intoSplit x d _) h) = kept p v B c q (λ y. no-for (subst (IsFor tb) y f)) (λ k′ d′. let z : _≡_ {A = ℕ} 0 1 = cc in omega arith)
-        go (byFor f (intoCarry a i d _ _) h) = kept p v B c q (λ y. no-for (subst (IsFor tb) y f)) (λ k′ d′. let z : _≡_ {A = ℕ} 0 1 = cc in omega arith)
-        go (byEnd a i d h l _ _) =
-            kept p v B c q (λ y. no-end (ap (tb .row) (sym y ∙ l) ∙ g .for-end (tb .loop a) (g .arg-for a i h))) (λ k′ d′. let z : _≡_ {A = ℕ} 0 1 = cc in omega arith)
+        go (byFor f n k d i h) = kept p v B c q (λ y. no-for (subst (IsFor tb) y f)) (λ k′ d′. no-op tb c r n i (cc))
+        go (byEnd L f n k d i l h) = kept p v B c q (λ y. no-end (ap (tb .row) (sym y ∙ l) ∙ g .for-end L f)) (λ k′ d′. no-op tb L r n i (cc))
         go (byOut x d l _) = kept p v B c q (λ y. let z = g .op-size r isop in omega arith) (λ k′ d′. let z : _≡_ {A = ℕ} 0 1 = cc in omega arith)
 
     inns-op : (p : Use) (u : Wire) → slot tb p ≡ inner u → after (plan tb) E s .tok p ≡ none
@@ -331,14 +328,7 @@ module _ (tb : Table) (g : Good tb) where
         ∙ put-drop-none (given E (some u)) (taken E p) (s .tok p) (not-given u (λ o h. go (inward tb p u q) o h)) (G .inners p u q)
       where
         go : Inward tb p u → (o : Output) → u ≡ output (opNode r) o → ⊥
-        go (gateIndex L a b fr) o h = let z : _≡_ {A = ℕ} 0 1 = cc in omega arith
-        go (gateCondition L a b fr) o h = let z : _≡_ {A = ℕ} 0 1 = cc in omega arith
-        go (splitGuard L x a b c) o h = let z : _≡_ {A = ℕ} 0 1 = cc in omega arith
-        go (copyCondition L x a b c) o h = let z : _≡_ {A = ℕ} 0 1 = cc in omega arith
-        go (copySeed L x a b c) o h = let z : _≡_ {A = ℕ} 0 1 = cc in omega arith
-        go (carryCondition x i a b c) o h = let z : _≡_ {A = ℕ} 0 1 = cc in omega arith
-        go (argCondition x a b c) o h = let z : _≡_ {A = ℕ} 0 1 = cc in omega arith
-        go (argCarried x a b c) o h = let z : _≡_ {A = ℕ} 0 1 = cc in omega arith
+        go i o h = let e = i .wire-is in no-op tb (i .loop) r (i .from) (i .from-in) (cc)
 
     recs-op : (n : Role) → Real tb n → (Inside tb (scope tb n) (suc r) → after (plan tb) E s .own n ≡ held tb n (setTo r w env))
         × ((Inside tb (scope tb n) (suc r) → ⊥) → after (plan tb) E s .own n ≡ rest)

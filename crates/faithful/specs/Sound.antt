@@ -346,11 +346,11 @@ module _ (t : List ℕ) (S : Structure t) where
   not-gate true L in1 v B c h = let z : _≡_ {A = ℕ} 0 1 = cc in omega arith
   not-gate true L in2 v B c h = let z : _≡_ {A = ℕ} 0 1 = cc in omega arith
 
-  not-copy : (b : Bool) (L u : ℕ) (k : Input) (v B c : ℕ) → copyInvariantSlot b L u k ≡ val v B c → ⊥
-  not-copy false L u k v B c h = let z : _≡_ {A = ℕ} 0 1 = cc in omega arith
-  not-copy true L u in0 v B c h = let z : _≡_ {A = ℕ} 0 1 = cc in omega arith
-  not-copy true L u in1 v B c h = let z : _≡_ {A = ℕ} 0 1 = cc in omega arith
-  not-copy true L u in2 v B c h = let z : _≡_ {A = ℕ} 0 1 = cc in omega arith
+  not-copy : (b : Bool) (R L u : ℕ) (k : Input) (v B c : ℕ) → copyInvariantSlot b R L u k ≡ val v B c → ⊥
+  not-copy false R L u k v B c h = let z : _≡_ {A = ℕ} 0 1 = cc in omega arith
+  not-copy true R L u in0 v B c h = let z : _≡_ {A = ℕ} 0 1 = cc in omega arith
+  not-copy true R L u in1 v B c h = let z : _≡_ {A = ℕ} 0 1 = cc in omega arith
+  not-copy true R L u in2 v B c h = let z : _≡_ {A = ℕ} 0 1 = cc in omega arith
 
   not-arg : (b : Bool) (L a : ℕ) (k : Input) (v B c : ℕ) → argSplitSlot b L a k ≡ val v B c → ⊥
   not-arg false L a k v B c h = let z : _≡_ {A = ℕ} 0 1 = cc in omega arith
@@ -364,7 +364,7 @@ module _ (t : List ℕ) (S : Structure t) where
   every-use (into (gate L) k) v B c h = absurd (not-gate (isForRow (tb .row L)) L k v B c h)
   every-use (into (guard L) k) v B c h = use-guard L (tb .row L) k v B c refl h
   every-use (into (copySplit L u) k) v B c h = use-copy L u (tb .carried L u) k v B c refl h
-  every-use (into (copyInvariant L u) k) v B c h = absurd (not-copy (tb .carried L u) L u k v B c h)
+  every-use (into (copyInvariant L u) k) v B c h = absurd (not-copy (tb .carried L u) (tb .reads L) L u k v B c h)
   every-use (into (carry a) k) v B c h = use-carry a (tb .row a) k v B c refl h
   every-use (into (argSplit a) k) v B c h = absurd (not-arg (isArg (tb .row a)) (bodyOf t a) a k v B c h)
   every-use (result q) v B c h = use-result q (tb .row q) v B c refl h

@@ -217,7 +217,7 @@ module _ (t : List ℕ) (S : Structure t) where
       ap some (value-wire v (reads t L) lv kv) ∙ sym (node-feed t (copySplit L v) in1 e)
   split-source L v true e in2 = sym (node-feed t (copySplit L v) in2 e)
 
-  invariant-source : (L v : ℕ) (b : Bool) → tb .carried L v ≡ b → (k : Input) → slotWire tb (copyInvariantSlot b L v k) ≡ source t (into (copyInvariant L v) k)
+  invariant-source : (L v : ℕ) (b : Bool) → tb .carried L v ≡ b → (k : Input) → slotWire tb (copyInvariantSlot b (tb .reads L) L v k) ≡ source t (into (copyInvariant L v) k)
   invariant-source L v false e k = sym (none-there (copyInvariant L v) k e)
   invariant-source L v true e in0 = sym (node-feed t (copyInvariant L v) in0 e)
   invariant-source L v true e in1 = sym (node-feed t (copyInvariant L v) in1 e)

@@ -2,9 +2,9 @@
 --
 --   Effects                   an effect or none for each role
 --   put-late, put-nothing     the second and third stage at a use that is empty before them; at one on which they give nothing
---   Inlet, flow               the eight kinds of inner use of a loop, and what a stage does to one
+--   Link, link, flow          an inner use of a loop, and what a stage does to one
 --   S1, S2, S3                the states after one, two and three stages
---   at1, at2, at3, inner3     what stands on the inner uses
+--   left1, at1, .., inner3    what stands on the inner uses
 --   tokv, own3, hist3         one stage at a value's use; the records, and the words put
 --   fired3                    the stages are firings, if each role is ready in its turn
 --
@@ -23,9 +23,10 @@ use Rattle.table.specs.Bodies.{arg}
 use Rattle.lowered.specs.Roles.{Role, opNode, stream, gate, guard, copySplit, copyInvariant, carry, argSplit, Wire, output, Use, into}
 use Rattle.uses.specs.Machine.{State, giveBy, takeBy, nextBy, put, drop, listed, given, taken, viewOf, after, Ready, Steps, steps-append}
 use Rattle.faithful.specs.Table.{Table, Slot, val, inner, IsFor, wireOf, slot, slotWire, src, isArg, Real, programOf, plan}
-use Rattle.faithful.specs.Good.{Good, Inward, gateIndex, gateCondition, splitGuard, copyCondition, copySeed, carryCondition, argCondition, argCarried, inward}
+use Rattle.faithful.specs.Members.{inLoop, arg-row, in-two, in-arg, is-eqb, in-one}
+use Rattle.faithful.specs.Good.{Good, Inward, inward}
 use Rattle.faithful.specs.Rows.{put-drop-none, src-cases}
-use Rattle.faithful.specs.Loop.{inLoop, only, only-yes, only-no, arg-row, in-two, in-arg, two-in, arg-in, two-out, eqb-yes, eqb-no, is-eqb, loop-stage, takes-no}
+use Rattle.faithful.specs.Loop.{only, only-yes, only-no, loop-stage, takes-no}
 
 abbrev pub sayIf : Bool → List ℕ → List ℕ
 sayIf true l = l
@@ -61,158 +62,46 @@ put-late (some y) b t2 t3 x e h = refl
 pub put-nothing : (a b : Option ℕ) (t2 t3 : Bool) (x : Option ℕ) → t3 ≡ false → put a b ≡ none → put a (drop t3 (put b (drop t2 x))) ≡ drop t2 x
 put-nothing a b t2 t3 x e h = let n = put-none a b h in let n0 = n .0 in let n1 = n .1 in rw (n0, n1, e)
 
--- the inner links of a loop
-pub data Inlet : Type 0 where
-  gate0 gate1 : Inlet
-  split0 inv0 inv1 : ℕ → Inlet
-  carry0 arg0 arg1 : ℕ → Inlet
-
-abbrev pub inletNode : ℕ → Inlet → Role
-inletNode L gate0 = gate L
-inletNode L gate1 = gate L
-inletNode L (split0 v) = copySplit L v
-inletNode L (inv0 v) = copyInvariant L v
-inletNode L (inv1 v) = copyInvariant L v
-inletNode L (carry0 a) = carry a
-inletNode L (arg0 a) = argSplit a
-inletNode L (arg1 a) = argSplit a
-
-abbrev pub inletInput : Inlet → Input
-inletInput gate0 = in0
-inletInput gate1 = in1
-inletInput (split0 v) = in0
-inletInput (inv0 v) = in0
-inletInput (inv1 v) = in1
-inletInput (carry0 a) = in0
-inletInput (arg0 a) = in0
-inletInput (arg1 a) = in1
-
-abbrev pub inletFrom : ℕ → Inlet → Role
-inletFrom L gate0 = stream L
-inletFrom L gate1 = stream L
-inletFrom L (split0 v) = guard L
-inletFrom L (inv0 v) = gate L
-inletFrom L (inv1 v) = copySplit L v
-inletFrom L (carry0 a) = stream L
-inletFrom L (arg0 a) = stream L
-inletFrom L (arg1 a) = carry a
-
-abbrev pub inletOutput : Inlet → Output
-inletOutput gate0 = out0
-inletOutput gate1 = out1
-inletOutput (split0 v) = out0
-inletOutput (inv0 v) = out1
-inletOutput (inv1 v) = out0
-inletOutput (carry0 a) = out1
-inletOutput (arg0 a) = out1
-inletOutput (arg1 a) = out0
-
 module _ (tb : Table) (g : Good tb) (L : ℕ) (f : IsFor tb L) where
-  abbrev pub InletOf : Inlet → Type 0
-  InletOf gate0 = Unit {0}
-  InletOf gate1 = Unit {0}
-  InletOf (split0 v) = tb .carried L v ≡ true
-  InletOf (inv0 v) = tb .carried L v ≡ true
-  InletOf (inv1 v) = tb .carried L v ≡ true
-  InletOf (carry0 a) = (tb .loop a ≡ L) × (isArg (tb .row a) ≡ true)
-  InletOf (arg0 a) = (tb .loop a ≡ L) × (isArg (tb .row a) ≡ true)
-  InletOf (arg1 a) = (tb .loop a ≡ L) × (isArg (tb .row a) ≡ true)
-
-  pub node-in : (x : Inlet) → InletOf x → inLoop tb L (inletNode L x) ≡ true
-  node-in gate0 m = eqb-yes L
-  node-in gate1 m = eqb-yes L
-  node-in (split0 v) m = two-in tb L v m
-  node-in (inv0 v) m = two-in tb L v m
-  node-in (inv1 v) m = two-in tb L v m
-  node-in (carry0 a) m = arg-in tb L a (m .0) (m .1)
-  node-in (arg0 a) m = arg-in tb L a (m .0) (m .1)
-  node-in (arg1 a) m = arg-in tb L a (m .0) (m .1)
-
-  from-in : (x : Inlet) → InletOf x → inLoop tb L (inletFrom L x) ≡ true
-  from-in gate0 m = eqb-yes L
-  from-in gate1 m = eqb-yes L
-  from-in (split0 v) m = eqb-yes L
-  from-in (inv0 v) m = eqb-yes L
-  from-in (inv1 v) m = two-in tb L v m
-  from-in (carry0 a) m = eqb-yes L
-  from-in (arg0 a) m = eqb-yes L
-  from-in (arg1 a) m = arg-in tb L a (m .0) (m .1)
-
-  pub inlet-slot : (x : Inlet) → InletOf x → slot tb (into (inletNode L x) (inletInput x)) ≡ inner (output (inletFrom L x) (inletOutput x))
-  inlet-slot gate0 m = rw (f .5)
-  inlet-slot gate1 m = rw (f .5)
-  inlet-slot (split0 v) m = rw m
-  inlet-slot (inv0 v) m = rw m
-  inlet-slot (inv1 v) m = rw m
-  inlet-slot (carry0 a) m = let r = arg-row tb a (m .1) in rw (r .1, m .0)
-  inlet-slot (arg0 a) m = rw (m .1, m .0)
-  inlet-slot (arg1 a) m = rw (m .1)
+  -- an inner link of the loop: input k of its node n reads output o of its node m
+  pub record Link (n : Role) (k : Input) (m : Role) (o : Output) : Type 0 where
+    pub reads : slot tb (into n k) ≡ inner (output m o)
+    pub node-in : inLoop tb L n ≡ true
+    pub from-in : inLoop tb L m ≡ true
 
   -- an inner use is a link of this loop, or the loop does not touch it
-  pub data Link (p : Use) (w : Wire) : Type 0 where
-    linked : (x : Inlet) → InletOf x → p ≡ into (inletNode L x) (inletInput x) → w ≡ output (inletFrom L x) (inletOutput x) → Link p w
-    unlinked : ((eff : Effects) → given (only tb L eff) (some w) ≡ none) → ((eff : Effects) → taken (only tb L eff) p ≡ false) → Link p w
+  pub data Linked (p : Use) (w : Wire) : Type 0 where
+    linked : (n : Role) (k : Input) (m : Role) (o : Output) → Link n k m o → p ≡ into n k → w ≡ output m o → Linked p w
+    unlinked : ((eff : Effects) → given (only tb L eff) (some w) ≡ none) → ((eff : Effects) → taken (only tb L eff) p ≡ false) → Linked p w
 
-  un : (p : Use) (w : Wire) (n m : Role) (k : Input) (o : Output) → p ≡ into n k → w ≡ output m o → inLoop tb L n ≡ false → inLoop tb L m ≡ false → Link p w
-  un p w n m k o a b c d =
-      unlinked (λ eff. ap (λ (z : Wire). given (only tb L eff) (some z)) b ∙ ap (λ (z : Option Effect). giveBy z o) (only-no tb L eff m d))
-      (takes-no tb g L f p n k a c)
-
-  pub link : (p : Use) (w : Wire) → slot tb p ≡ inner w → Link p w
-  link p w q = go (inward tb p w q)
-    where
-      go : Inward tb p w → Link p w
-      go (gateIndex M a b fr) =
-          elim (ℕ-discrete M L) [
-            | yes e ↦ linked gate0 tt (a ∙ ap (λ (z : ℕ). into (gate z) in0) e) (b ∙ ap (λ (z : ℕ). output (stream z) out0) e)
-            | no e ↦ un p w (gate M) (stream M) in0 out0 a b (eqb-no M L e) (eqb-no M L e)
-          ]
-      go (gateCondition M a b fr) =
-          elim (ℕ-discrete M L) [
-            | yes e ↦ linked gate1 tt (a ∙ ap (λ (z : ℕ). into (gate z) in1) e) (b ∙ ap (λ (z : ℕ). output (stream z) out1) e)
-            | no e ↦ un p w (gate M) (stream M) in1 out1 a b (eqb-no M L e) (eqb-no M L e)
-          ]
-      go (splitGuard M v a b c) =
-          elim (ℕ-discrete M L) [
-            | yes e ↦ linked (split0 v) (subst (λ (z : ℕ). tb .carried z v ≡ true) e c) (a ∙ ap (λ (z : ℕ). into (copySplit z v) in0) e) (b ∙ ap (λ (z : ℕ). output (guard z) out0) e)
-            | no e ↦ un p w (copySplit M v) (guard M) in0 out0 a b (two-out tb L M (tb .carried M v) e) (eqb-no M L e)
-          ]
-      go (copyCondition M v a b c) =
-          elim (ℕ-discrete M L) [
-            | yes e ↦ linked (inv0 v) (subst (λ (z : ℕ). tb .carried z v ≡ true) e c) (a ∙ ap (λ (z : ℕ). into (copyInvariant z v) in0) e) (b ∙ ap (λ (z : ℕ). output (gate z) out1) e)
-            | no e ↦ un p w (copyInvariant M v) (gate M) in0 out1 a b (two-out tb L M (tb .carried M v) e) (eqb-no M L e)
-          ]
-      go (copySeed M v a b c) =
-          elim (ℕ-discrete M L) [
-            | yes e ↦ linked (inv1 v) (subst (λ (z : ℕ). tb .carried z v ≡ true) e c) (a ∙ ap (λ (z : ℕ). into (copyInvariant z v) in1) e) (b ∙ ap (λ (z : ℕ). output (copySplit z v) out0) e)
-            | no e ↦ un p w (copyInvariant M v) (copySplit M v) in1 out0 a b (two-out tb L M (tb .carried M v) e) (two-out tb L M (tb .carried M v) e)
-          ]
-      go (carryCondition x i a b c) =
-          elim (ℕ-discrete (tb .loop x) L) [
-            | yes e ↦ linked (carry0 x) (e, ap isArg c) a (b ∙ ap (λ (z : ℕ). output (stream z) out1) e)
-            | no e ↦ un p w (carry x) (stream (tb .loop x)) in0 out1 a b (two-out tb L (tb .loop x) (isArg (tb .row x)) e) (eqb-no (tb .loop x) L e)
-          ]
-      go (argCondition x a b c) =
-          elim (ℕ-discrete (tb .loop x) L) [
-            | yes e ↦ linked (arg0 x) (e, c) a (b ∙ ap (λ (z : ℕ). output (stream z) out1) e)
-            | no e ↦ un p w (argSplit x) (stream (tb .loop x)) in0 out1 a b (two-out tb L (tb .loop x) (isArg (tb .row x)) e) (eqb-no (tb .loop x) L e)
-          ]
-      go (argCarried x a b c) =
-          elim (ℕ-discrete (tb .loop x) L) [
-            | yes e ↦ linked (arg1 x) (e, c) a b
-            | no e ↦ un p w (argSplit x) (carry x) in1 out0 a b (two-out tb L (tb .loop x) (isArg (tb .row x)) e) (two-out tb L (tb .loop x) (isArg (tb .row x)) e)
-          ]
+  pub link : (p : Use) (w : Wire) → slot tb p ≡ inner w → Linked p w
+  link p w q =
+      let i = inward tb p w q in
+      elim (ℕ-discrete (i .loop) L) [
+        | yes e ↦
+            linked (i .node) (i .place) (i .from) (i .leg)
+            (record {
+              reads = ap (slot tb) (sym (i .use-is)) ∙ q ∙ ap inner (i .wire-is);
+              node-in = subst (λ (z : ℕ). inLoop tb z (i .node) ≡ true) e (i .node-in);
+              from-in = subst (λ (z : ℕ). inLoop tb z (i .from) ≡ true) e (i .from-in);
+            })
+            (i .use-is) (i .wire-is)
+        | no e ↦
+            unlinked
+            (λ eff. ap (λ (z : Wire). given (only tb L eff) (some z)) (i .wire-is) ∙ ap (λ (z : Option Effect). giveBy z (i .leg)) (only-no tb L eff (i .from) (in-one tb L (i .loop) (i .from) (i .from-in) e)))
+            (takes-no tb g L f p (i .node) (i .place) (i .use-is) (in-one tb L (i .loop) (i .node) (i .node-in) e))
+      ]
 
   -- one stage at an inner use, at a value's use, at a record
-  abbrev pub flow : Effects → Inlet → Option ℕ → Option ℕ
-  flow e x t = put (giveBy (e (inletFrom L x)) (inletOutput x)) (drop (takeBy (e (inletNode L x)) (inletInput x)) t)
+  abbrev pub flow : Effects → Role → Input → Role → Output → Option ℕ → Option ℕ
+  flow e n k m o t = put (giveBy (e m) o) (drop (takeBy (e n) k) t)
 
-  pub inlet-token : (e : Effects) (s : State) (x : Inlet) → InletOf x → (t : Option ℕ) → s .tok (into (inletNode L x) (inletInput x)) ≡ t
-      → after (plan tb) (only tb L e) s .tok (into (inletNode L x) (inletInput x)) ≡ flow e x t
-  inlet-token e s x m t q =
-      ap (λ (z : Slot). put (given (only tb L e) (slotWire tb z)) (drop (taken (only tb L e) (into (inletNode L x) (inletInput x))) (s .tok (into (inletNode L x) (inletInput x))))) (inlet-slot x m)
-      ∙ ap₂ (λ (a b : Option Effect). put (giveBy a (inletOutput x)) (drop (takeBy b (inletInput x)) (s .tok (into (inletNode L x) (inletInput x))))) (only-yes tb L e (inletFrom L x) (from-in x m)) (only-yes tb L e (inletNode L x) (node-in x m))
-      ∙ ap (flow e x) q
+  pub link-token : (e : Effects) (s : State) (n : Role) (k : Input) (m : Role) (o : Output) → Link n k m o → (t : Option ℕ) → s .tok (into n k) ≡ t
+      → after (plan tb) (only tb L e) s .tok (into n k) ≡ flow e n k m o t
+  link-token e s n k m o l t q =
+      ap (λ (z : Slot). put (given (only tb L e) (slotWire tb z)) (drop (taken (only tb L e) (into n k)) (s .tok (into n k)))) (l .reads)
+      ∙ ap₂ (λ (a b : Option Effect). put (giveBy a o) (drop (takeBy b k) (s .tok (into n k)))) (only-yes tb L e m (l .from-in)) (only-yes tb L e n (l .node-in))
+      ∙ ap (flow e n k m o) q
 
   pub tok-un : (e : Effects) (s : State) (p : Use) (w : Wire) → slot tb p ≡ inner w → given (only tb L e) (some w) ≡ none → taken (only tb L e) p ≡ false
       → s .tok p ≡ none → after (plan tb) (only tb L e) s .tok p ≡ none
@@ -291,41 +180,51 @@ module _ (tb : Table) (g : Good tb) (L : ℕ) (f : IsFor tb L) where
     abbrev pub S3 : State
     S3 = after (plan tb) (only tb L e3) S2
 
-    pub at1 : (x : Inlet) → InletOf x → S1 .tok (into (inletNode L x) (inletInput x)) ≡ flow e1 x none
-    at1 x m = inlet-token e1 s x m none (empty (into (inletNode L x) (inletInput x)) (output (inletFrom L x) (inletOutput x)) (inlet-slot x m))
+    -- what the stages leave on a link
+    abbrev pub left1 : Role → Input → Role → Output → Option ℕ
+    left1 n k m o = flow e1 n k m o none
 
-    pub at2 : (x : Inlet) → InletOf x → S2 .tok (into (inletNode L x) (inletInput x)) ≡ flow e2 x (flow e1 x none)
-    at2 x m = inlet-token e2 S1 x m (flow e1 x none) (at1 x m)
+    abbrev pub left2 : Role → Input → Role → Output → Option ℕ
+    left2 n k m o = flow e2 n k m o (left1 n k m o)
 
-    pub at3 : (x : Inlet) → InletOf x → S3 .tok (into (inletNode L x) (inletInput x)) ≡ flow e3 x (flow e2 x (flow e1 x none))
-    at3 x m = inlet-token e3 S2 x m (flow e2 x (flow e1 x none)) (at2 x m)
+    abbrev pub left3 : Role → Input → Role → Output → Option ℕ
+    left3 n k m o = flow e3 n k m o (left2 n k m o)
+
+    pub at1 : (n : Role) (k : Input) (m : Role) (o : Output) → Link n k m o → S1 .tok (into n k) ≡ left1 n k m o
+    at1 n k m o l = link-token e1 s n k m o l none (empty (into n k) (output m o) (l .reads))
+
+    pub at2 : (n : Role) (k : Input) (m : Role) (o : Output) → Link n k m o → S2 .tok (into n k) ≡ left2 n k m o
+    at2 n k m o l = link-token e2 S1 n k m o l (left1 n k m o) (at1 n k m o l)
+
+    pub at3 : (n : Role) (k : Input) (m : Role) (o : Output) → Link n k m o → S3 .tok (into n k) ≡ left3 n k m o
+    at3 n k m o l = link-token e3 S2 n k m o l (left2 n k m o) (at2 n k m o l)
 
     -- inner uses are empty again
-    pub inner3 : ((x : Inlet) → InletOf x → flow e3 x (flow e2 x (flow e1 x none)) ≡ none) → (p : Use) (w : Wire) → slot tb p ≡ inner w → S3 .tok p ≡ none
+    pub inner3 : ((n : Role) (k : Input) (m : Role) (o : Output) → Link n k m o → left3 n k m o ≡ none) → (p : Use) (w : Wire) → slot tb p ≡ inner w → S3 .tok p ≡ none
     inner3 h p w q = go (link p w q)
       where
-        go : Link p w → S3 .tok p ≡ none
-        go (linked x m a b) = ap (S3 .tok) a ∙ at3 x m ∙ h x m
+        go : Linked p w → S3 .tok p ≡ none
+        go (linked n k m o l a b) = ap (S3 .tok) a ∙ at3 n k m o l ∙ h n k m o l
         go (unlinked a b) = tok-un e3 S2 p w q (a e3) (b e3) (tok-un e2 S1 p w q (a e2) (b e2) (tok-un e1 s p w q (a e1) (b e1) (empty p w q)))
 
     -- inner uses have room
-    inlet-room : (e : Effects) (x : Inlet) → InletOf x → (w : Wire) (y : ℕ) → w ≡ output (inletFrom L x) (inletOutput x) → given (only tb L e) (some w) ≡ some y → giveBy (e (inletFrom L x)) (inletOutput x) ≡ some y
-    inlet-room e x m w y b k = ap (λ (z : Option Effect). giveBy z (inletOutput x)) (sym (only-yes tb L e (inletFrom L x) (from-in x m))) ∙ ap (λ (z : Wire). given (only tb L e) (some z)) (sym b) ∙ k
+    link-room : (e : Effects) (m : Role) (o : Output) → inLoop tb L m ≡ true → (w : Wire) (y : ℕ) → w ≡ output m o → given (only tb L e) (some w) ≡ some y → giveBy (e m) o ≡ some y
+    link-room e m o i w y b k = ap (λ (z : Option Effect). giveBy z o) (sym (only-yes tb L e m i)) ∙ ap (λ (z : Wire). given (only tb L e) (some z)) (sym b) ∙ k
 
-    pub room2 : ((x : Inlet) → InletOf x → (y : ℕ) → giveBy (e2 (inletFrom L x)) (inletOutput x) ≡ some y → flow e1 x none ≡ none)
+    pub room2 : ((n : Role) (k : Input) (m : Role) (o : Output) → Link n k m o → (y : ℕ) → giveBy (e2 m) o ≡ some y → left1 n k m o ≡ none)
         → (p : Use) (w : Wire) (y : ℕ) → slot tb p ≡ inner w → given (only tb L e2) (some w) ≡ some y → S1 .tok p ≡ none
-    room2 h p w y q k = go (link p w q)
+    room2 h p w y q x = go (link p w q)
       where
-        go : Link p w → S1 .tok p ≡ none
-        go (linked x m a b) = ap (S1 .tok) a ∙ at1 x m ∙ h x m y (inlet-room e2 x m w y b k)
+        go : Linked p w → S1 .tok p ≡ none
+        go (linked n k m o l a b) = ap (S1 .tok) a ∙ at1 n k m o l ∙ h n k m o l y (link-room e2 m o (l .from-in) w y b x)
         go (unlinked a b) = tok-un e1 s p w q (a e1) (b e1) (empty p w q)
 
-    pub room3 : ((x : Inlet) → InletOf x → (y : ℕ) → giveBy (e3 (inletFrom L x)) (inletOutput x) ≡ some y → flow e2 x (flow e1 x none) ≡ none)
+    pub room3 : ((n : Role) (k : Input) (m : Role) (o : Output) → Link n k m o → (y : ℕ) → giveBy (e3 m) o ≡ some y → left2 n k m o ≡ none)
         → (p : Use) (w : Wire) (y : ℕ) → slot tb p ≡ inner w → given (only tb L e3) (some w) ≡ some y → S2 .tok p ≡ none
-    room3 h p w y q k = go (link p w q)
+    room3 h p w y q x = go (link p w q)
       where
-        go : Link p w → S2 .tok p ≡ none
-        go (linked x m a b) = ap (S2 .tok) a ∙ at2 x m ∙ h x m y (inlet-room e3 x m w y b k)
+        go : Linked p w → S2 .tok p ≡ none
+        go (linked n k m o l a b) = ap (S2 .tok) a ∙ at2 n k m o l ∙ h n k m o l y (link-room e3 m o (l .from-in) w y b x)
         go (unlinked a b) = tok-un e2 S1 p w q (a e2) (b e2) (tok-un e1 s p w q (a e1) (b e1) (empty p w q))
 
     pub own3 : (n : Role) → inLoop tb L n ≡ true → S3 .own n ≡ nextBy (e3 n) (nextBy (e2 n) (nextBy (e1 n) (s .own n)))

@@ -173,17 +173,18 @@ gateSlot true L in0 = inner (output (stream L) out0)
 gateSlot true L in1 = inner (output (stream L) out1)
 gateSlot true L in2 = absent
 
+-- v is carried into L, which is read in B: the SPLIT and the INVARIANT of the copy
 abbrev pub copySplitSlot : Bool → ℕ → ℕ → ℕ → Input → Slot
 copySplitSlot false B L v k = absent
 copySplitSlot true B L v in0 = inner (output (guard L) out0)
 copySplitSlot true B L v in1 = val v B L
 copySplitSlot true B L v in2 = absent
 
-abbrev pub copyInvariantSlot : Bool → ℕ → ℕ → Input → Slot
-copyInvariantSlot false L v k = absent
-copyInvariantSlot true L v in0 = inner (output (gate L) out1)
-copyInvariantSlot true L v in1 = inner (output (copySplit L v) out0)
-copyInvariantSlot true L v in2 = absent
+abbrev pub copyInvariantSlot : Bool → ℕ → ℕ → ℕ → Input → Slot
+copyInvariantSlot false B L v k = absent
+copyInvariantSlot true B L v in0 = inner (output (gate L) out1)
+copyInvariantSlot true B L v in1 = inner (output (copySplit L v) out0)
+copyInvariantSlot true B L v in2 = absent
 
 -- i: the initial, B: where it is read; L: the loop; w: what its NEXT names; e: the END
 abbrev pub carrySlot : Row → ℕ → ℕ → ℕ → ℕ → Input → Slot
@@ -289,7 +290,7 @@ module _ (tb : Table) where
   slot (into (gate L) k) = gateSlot (isForRow (tb .row L)) L k
   slot (into (guard L) k) = guardSlot (tb .row L) (tb .reads L) L k
   slot (into (copySplit L v) k) = copySplitSlot (tb .carried L v) (tb .reads L) L v k
-  slot (into (copyInvariant L v) k) = copyInvariantSlot (tb .carried L v) L v k
+  slot (into (copyInvariant L v) k) = copyInvariantSlot (tb .carried L v) (tb .reads L) L v k
   slot (into (carry a) k) = carrySlot (tb .row a) (tb .reads (tb .loop a)) (tb .loop a) (named (tb .row (tb .nextOf a))) (tb .last (tb .loop a)) k
   slot (into (argSplit a) k) = argSplitSlot (isArg (tb .row a)) (tb .loop a) a k
   slot (result q) = resultSlot (tb .row q) (tb .size) (suc (tb .size))

@@ -24,7 +24,8 @@ use Rattle.faithful.specs.Table.{Table, sinceBy, IsFor, born, since, isA
 use Rattle.faithful.specs.Good.{Inner, Used, Good}
 use Rattle.faithful.specs.Gamma.{Env, Live, Inside, scope, Rel, before, behind, inside, around, rel, since-head, since-in, since-own}
 use Rattle.faithful.specs.Rows.{setTo, set-same, set-other, setBy}
-use Rattle.faithful.specs.Loop.{inLoop, arg-row, arg-in, eqb-yes, is-eqb, for-below, reads-not}
+use Rattle.faithful.specs.Members.{inLoop, arg-row, arg-in, eqb-yes, is-eqb}
+use Rattle.faithful.specs.Loop.{for-below, reads-not}
 
 -- the row where a step begins
 pub data From : Type 0 where
