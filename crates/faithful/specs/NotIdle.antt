@@ -1,21 +1,25 @@
 -- None of this is idle: the register's tables pass the check, their readings end, and the theorems speak of their graphs.
 --
 --   the-sum-of-five-means-ten         P10: every order that rests leaves 10, and five ones and a zero have passed
+--   the-end-of-five                   all words of the state that it leaves
 --   no-turn-leaves-nothing            P11: every order that rests leaves 0; one zero has passed raw, nothing gated, and nothing stays behind
 --   the-inner-loop-opens-anew         P12: the result is 5; the inner loop's openings have 0, 1 and 2 turns
 --   a-zero-step-is-answered           the sum table with step 0: every order that rests answers ZERO STEP
 --   an-endless-loop-never-rests       a loop that goes on while its index is at most 0, and it stays 0: no order rests
 --
 -- Assumes nothing.
-use mathlib.Core.Path.{_≡_, refl, ap₂}
+use mathlib.Core.Path.{_≡_, refl, ap, ap₂, _∙_}
 use mathlib.Core.Bool.{Bool, true, cond}
 use mathlib.Core.Option.{none, some}
-use mathlib.Core.List.{List, [], _∷_}
+use mathlib.Core.List.{List, [], _∷_, _++_}
 use Prim.Native.Nat.{ℕ, zero, suc}
 use native.Mathlib.Omega.{arith}
 use lib.Dec.{eqb}
+use lib.ListN.{replicate}
 use Rattle.word.specs.Words.{condition, update}
+use Rattle.graph.specs.Below.{joined}
 use Rattle.graph.specs.Graph.{resultAt}
+use Rattle.graph.specs.SumGraph.{sumGraph}
 use Rattle.state.specs.State.{tokenAt}
 use Rattle.state.specs.Run.{COMPLETE, ZERO-STEP, outcome}
 use Rattle.confluence.specs.Statements.{Fires, AtRest, putOnWire}
@@ -28,9 +32,10 @@ use Rattle.reading.specs.Reading.{Env, Opening, at, nextNamed, oneTurn, endStep
 use Rattle.reading.specs.Cases.{p10-reads-10, p11-reads-0, p12-reads-5, zero-step-at-row-3}
 use Rattle.lowered.specs.Lower.{loweredWords}
 use Rattle.lowered.specs.Room.{ROOM, hasRoom, refusedBy, checkAnswer}
-use Rattle.lowered.specs.Cases.{lowering-computes}
+use Rattle.lowered.specs.Cases.{lowering-computes, sum-table-lowers-to-the-102-words}
 use Rattle.faithful.specs.Conditions.{turnsOf}
-use Rattle.faithful.specs.Statements.{loadedTable, rawWire, gatedWire, lowered-table-means-its-reading, zero-step-is-never-complete, endless-reading-never-rests}
+use Rattle.faithful.specs.EndState.{endState}
+use Rattle.faithful.specs.Statements.{loadedTable, rawWire, gatedWire, lowered-table-means-its-reading, the-end-state, zero-step-is-never-complete, endless-reading-never-rests}
 
 -- everything that a refusal computes with, and everything that a reading does
 unfoldable pub check-computes : ℕ
@@ -74,6 +79,15 @@ unfolding turnsOf
 the-sum-of-five-means-ten order u f h =
     let e = lowered-table-means-its-reading sumTable sum-is-checked (5 ∷ []) (10 ∷ []) _ p10-reads-10 .1 order u f .ends h in
     record { leaves = e .state .results-hold 0 10 refl; told-raw = e .conditions .raw 3 refl; told-gated = e .conditions .gated 3 refl; completes = e .answer }
+
+-- 22 wires and 13 nodes: 44 words and 52
+five-listed : endState sumGraph (10 ∷ []) ≡ replicate 20 0 ++ (1 ∷ 10 ∷ replicate 74 0)
+unfolding endState joined sumGraph
+five-listed = refl
+
+pub the-end-of-five : (order u : List ℕ) → Fires (loweredWords sumTable) order (loadedTable sumTable (5 ∷ [])) u → AtRest (loweredWords sumTable) u
+    → u ≡ replicate 20 0 ++ (1 ∷ 10 ∷ replicate 74 0)
+the-end-of-five order u f h = the-end-state sumTable sum-is-checked (5 ∷ []) (10 ∷ []) _ p10-reads-10 order u f h ∙ ap (λ (g : List ℕ). endState g (10 ∷ [])) sum-table-lowers-to-the-102-words ∙ five-listed
 
 pub no-turn-leaves-nothing : (order u : List ℕ) → Fires (loweredWords sumTable) order (loadedTable sumTable (0 ∷ [])) u → AtRest (loweredWords sumTable) u
     → Leaves sumTable (0 ∷ []) 3 0 (0 ∷ []) [] order u
