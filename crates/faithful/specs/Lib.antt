@@ -24,6 +24,7 @@ pub mod Endless
 pub mod Sources
 pub mod Legs
 pub mod Begin
+pub mod Passed
 pub mod Finish
 pub mod Places
 pub mod Loading
@@ -33,6 +34,7 @@ pub mod EndState
 pub mod Endings
 pub mod Faults
 pub mod Waiting
+pub mod Silent
 pub mod Statements
 pub mod NotIdle
 pub mod NotSo

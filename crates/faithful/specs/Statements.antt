@@ -7,6 +7,9 @@
 --   every-run-is-complete             so every run with that allowance, whatever its list, answers COMPLETE in that state
 --   zero-step-is-named                where the reading meets a zero step, in every order that rests the STREAM of that loop waits with it, and ZERO
 --                                     STEP is answered with the lowest node that waits so
+--   zero-step-is-not-behind           and the node is of no loop that the reading has left: where an outermost loop stands at that row or above it, not
+--                                     below that loop's STREAM
+--   outermost-zero-step-is-named      so where that loop stands in no other, the node named is its STREAM
 --   zero-step-is-never-complete       so every order that rests answers ZERO STEP
 --   no-run-completes-a-fault          so no run, whatever its list and allowance, answers COMPLETE there
 --   rest-bounds-the-reading           where an order rests after F firings, the reading comes to an outcome, within a number of steps that F fixes
@@ -49,6 +52,7 @@ use Rattle.state.specs.Net.{netOf}
 use Rattle.state.specs.Run.{COMPLETE, SPENT, STRANDED, ZERO-STEP, outcome}
 use Rattle.confluence.specs.Statements.{Fires, AtRest, putOnWire, every-order-rests-alike, runOf, madeBy, enough-is-not-spent, run-is-an-order}
 use Rattle.table.specs.Rows.{kindOf, size, FOR}
+use Rattle.table.specs.Scan.{bodyOf, readStack, reads}
 use Rattle.table.specs.Check.{tableRefusal, answer}
 use Rattle.structure.specs.Structure.{Structure, passing-table-has-structure}
 use Rattle.reading.specs.Reading.{Opening, Outcome, ended, zeroStep, begin, readFrom, read, resultsFrom}
@@ -59,18 +63,18 @@ use Rattle.lowered.specs.Lower.{roles, wireNumber, loweredWords}
 use Rattle.lowered.specs.Room.{hasRoom, fitsInto, refusedBy, checkAnswer, lowerRefusal}
 use Rattle.laid.specs.Answers.{number-0-is-no-refusal, checked-table-lowers}
 use Rattle.faithful.specs.Conditions.{turnsOf, turns-reverse, rawOf, gatedOf}
-use Rattle.faithful.specs.Table.{IsFor}
-use Rattle.faithful.specs.Tables.{tableOf, for-row}
+use Rattle.faithful.specs.Tables.{tableOf, for-row, for-kind}
 use Rattle.faithful.specs.Sound.{passing-is-good}
 use Rattle.faithful.specs.Following.{Ended, Faulted, followed}
 use Rattle.faithful.specs.Endless.{Far, outcome-or-far, enough-steps}
 use Rattle.faithful.specs.Finish.{finished, rests}
-use Rattle.faithful.specs.Places.{laid, num}
+use Rattle.faithful.specs.Places.{laid}
 use Rattle.faithful.specs.Order.{first-state, follows-first, order-shows}
 use Rattle.faithful.specs.EndState.{endState}
 use Rattle.faithful.specs.Endings.{AsRead, ended-as-read, answers-complete}
-use Rattle.faithful.specs.Faults.{ZeroStepped, zero-step-lasts, ZeroStepNamed, answers-zero-step}
-use Rattle.faithful.specs.Waiting.{waiting, not-complete}
+use Rattle.faithful.specs.Faults.{zero-step-lasts, ZeroStepNamed, answers-zero-step}
+use Rattle.faithful.specs.Waiting.{not-complete}
+use Rattle.faithful.specs.Silent.{hushed-run, waits-late, AtFault, at-fault}
 
 abbrev pub loadedTable : List ℕ → List ℕ → List ℕ
 loadedTable t inputs = loaded (loweredWords t) inputs
@@ -229,25 +233,13 @@ module _ (t : List ℕ) (checked : checkAnswer t .number ≡ 0) where
 
   -- ---- a zero step
 
-  -- an order that follows the reading up to the FOR row leaves its STREAM waiting with a zero step
-  faulted-order : (inputs : List ℕ) (L : ℕ) (openings : List Opening) → Reads t inputs (zeroStep L openings)
-      → (order : List ℕ) × (u : List ℕ) × Fires (loweredWords t) order (loadedTable t inputs) u × ZeroStepped (loweredWords t) u (num t S (stream L)) × IsFor (tableOf t) L
+  -- an order that follows the reading up to the FOR row
+  faulted-order : (inputs : List ℕ) (L : ℕ) (openings : List Opening) → Reads t inputs (zeroStep L openings) → AtFault t S ok inputs L
   faulted-order inputs L openings r = go (reading-of inputs (zeroStep L openings) r)
     where
-      go : Ended t S (first-state t S ok inputs) (zeroStep L openings) ⊎ Faulted t S (first-state t S ok inputs) (zeroStep L openings)
-          → (order : List ℕ) × (u : List ℕ) × Fires (loweredWords t) order (loadedTable t inputs) u × ZeroStepped (loweredWords t) u (num t S (stream L)) × IsFor (tableOf t) L
+      go : Ended t S (first-state t S ok inputs) (zeroStep L openings) ⊎ Faulted t S (first-state t S ok inputs) (zeroStep L openings) → AtFault t S ok inputs L
       go (inl e) = let k = e .outcome in let z : _≡_ {A = ℕ} 0 1 = cc in absurd (omega arith)
-      go (inr e) =
-          let k = e .outcome in
-          let d : L ≡ e .loop = cc in
-          let x = order-shows t S ok inputs (e .path) (e .there) (e .steps) .0 in (
-            x .order,
-            x .state,
-            x .fires,
-            subst (λ (z : ℕ). ZeroStepped (loweredWords t) (x .state) (num t S (stream z))) (sym d)
-                (waiting t S ok inputs (e .loop) (e .start) (e .step) (e .bound) (e .change) (e .compare) (e .row) (e .env) (e .there) (e .follows .gamma) (e .zero-step) x),
-            subst (IsFor (tableOf t)) (sym d) (e .start, e .step, e .bound, e .change, e .compare, e .row),
-          )
+      go (inr e) = let k = e .outcome in let d : e .loop ≡ L = cc in subst (AtFault t S ok inputs) d (at-fault t S ok inputs (zeroStep L openings) e)
 
   -- In every order that rests the STREAM of that loop waits with the zero step; ZERO STEP is answered, and the lowest STREAM that waits so is named.
   pub zero-step-is-named : (inputs : List ℕ) (L : ℕ) (openings : List Opening) → Reads t inputs (zeroStep L openings)
@@ -255,9 +247,31 @@ module _ (t : List ℕ) (checked : checkAnswer t .number ≡ 0) where
       → ZeroStepNamed (loweredWords t) u (streamNode t L) (outcome (loweredWords t) u)
   zero-step-is-named inputs L openings r order u q h =
       let f = faulted-order inputs L openings r in
-      let a = every-order-rests-alike (loweredWords t) ok order (loadedTable t inputs) u q h (f .0) (f .1) (f .2) in
-      let Z = zero-step-lasts (loweredWords t) ok (a .extends .0) (f .1) u (num t S (stream L)) (f .3) (a .extends .1) in
-      answers-zero-step (loweredWords t) u (streamNode t L) (node-in-range (loweredWords t) (num t S (stream L)) (Z .node) (Z .here)) Z h (not-complete t S ok u L (f .4) Z)
+      let a = every-order-rests-alike (loweredWords t) ok order (loadedTable t inputs) u q h (f .order) (f .state) (f .fires) in
+      let Z = zero-step-lasts (loweredWords t) ok (a .extends .0) (f .state) u (streamNode t L) (f .waits) (a .extends .1) in
+      answers-zero-step (loweredWords t) u (streamNode t L) (node-in-range (loweredWords t) (streamNode t L) (Z .node) (Z .here)) Z h (not-complete t S ok u L (f .is-for) Z)
+
+  -- The node named is none of what the reading has left: not below the STREAM of an outermost loop at that row or above it.
+  pub zero-step-is-not-behind : (inputs : List ℕ) (L : ℕ) (openings : List Opening) → Reads t inputs (zeroStep L openings)
+      → (order u : List ℕ) → Fires (loweredWords t) order (loadedTable t inputs) u → AtRest (loweredWords t) u
+      → (M : ℕ) → kindOf t M ≡ FOR → bodyOf t M ≡ size t → M ≤ L → streamNode t M ≤ outcome (loweredWords t) u .node
+  unfolding bodyOf readStack reads
+  zero-step-is-not-behind inputs L openings r order u q h M k b come =
+      let f = faulted-order inputs L openings r in
+      let a = every-order-rests-alike (loweredWords t) ok order (loadedTable t inputs) u q h (f .order) (f .state) (f .fires) in
+      let here = for-row t S M k in
+      let outside : reads t M ≡ size t = rw k b in
+      let x = hushed-run t S ok M here outside (a .extends .0) (f .state) u (f .tokens) (f .flat) (f .hushed M here outside come) (a .extends .1) in
+      waits-late t S ok M here outside u (x .0) (x .1) (x .2) (outcome (loweredWords t) u .node) (zero-step-is-named inputs L openings r order u q h .named)
+
+  -- So where that loop stands in no other, the node named is its STREAM.
+  pub outermost-zero-step-is-named : (inputs : List ℕ) (L : ℕ) (openings : List Opening) → Reads t inputs (zeroStep L openings) → bodyOf t L ≡ size t
+      → (order u : List ℕ) → Fires (loweredWords t) order (loadedTable t inputs) u → AtRest (loweredWords t) u → outcome (loweredWords t) u .node ≡ streamNode t L
+  outermost-zero-step-is-named inputs L openings r b order u q h =
+      let k = for-kind t S L (faulted-order inputs L openings r .is-for) .1 in
+      let low = zero-step-is-not-behind inputs L openings r order u q h L k b (omega arith) in
+      let high = zero-step-is-named inputs L openings r order u q h .at-most in
+      omega arith
 
   pub zero-step-is-never-complete : (inputs : List ℕ) (L : ℕ) (openings : List Opening) → Reads t inputs (zeroStep L openings)
       → (order u : List ℕ) → Fires (loweredWords t) order (loadedTable t inputs) u → AtRest (loweredWords t) u → outcome (loweredWords t) u .answer ≡ ZERO-STEP

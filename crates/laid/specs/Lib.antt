@@ -14,6 +14,7 @@ pub mod Accepts
 pub mod Answers
 pub mod Limits
 pub mod Bases
+pub mod Rowwise
 pub mod Counts
 pub mod Wired
 pub mod Sourced
