@@ -44,8 +44,7 @@ use Rattle.lowered.specs.Lower.{loweredWords}
 use Rattle.lowered.specs.Room.{checkAnswer, lowerAnswer, lentAfter}
 use Rattle.lowering.specs.Answers.{LowerAnswer}
 use Rattle.faithful.specs.Endings.{AsRead}
-use Rattle.faithful.specs.Faults.{ZeroStepNamed}
-use Rattle.faithful.specs.Statements.{EndsAsRead, ConditionsTold, loadedTable, streamNode, lowered-table-means-its-reading}
+use Rattle.faithful.specs.Statements.{EndsAsRead, ConditionsTold, FaultNamed, loadedTable, lowered-table-means-its-reading}
 use Rattle.demands.specs.Rehearsal.{Graph, graph-is-lowered, lowered-is-checked, only-the-list-is-refused, loaded-is, rehearsal-is-the-reading, rehearsal-meets-the-fault, complete-is-the-reading}
 
 pub record Called (t lent inputs s list : List ℕ) (a : ℕ) (q : Ran) (end : List ℕ) : Type 0 where
@@ -127,9 +126,9 @@ module _ (t inputs : List ℕ) where
   -- AND WHERE IT MEETS A ZERO STEP
   pub calls-meet-the-fault : (L : ℕ) (openings : List Opening) → Reads t inputs (zeroStep L openings)
       → (lent s list : List ℕ) (a : ℕ) (q : Ran) (end : List ℕ) → Called t lent inputs s list a q end
-      → (ranOutcome q .answer ≡ SPENT) ⊎ ZeroStepNamed (loweredWords t) end (streamNode t L) (ranOutcome q)
+      → (ranOutcome q .answer ≡ SPENT) ⊎ FaultNamed t L end (ranOutcome q)
   calls-meet-the-fault L openings r lent s list a q end c =
-      subst₂ (λ (x : Ran) (u : List ℕ). (ranOutcome x .answer ≡ SPENT) ⊎ ZeroStepNamed (loweredWords t) u (streamNode t L) (ranOutcome x)) (sym (answered t lent inputs s list a q end c)) (sym (left t lent inputs s list a q end c))
+      subst₂ (λ (x : Ran) (u : List ℕ). (ranOutcome x .answer ≡ SPENT) ⊎ FaultNamed t L u (ranOutcome x)) (sym (answered t lent inputs s list a q end c)) (sym (left t lent inputs s list a q end c))
       (rehearsal-meets-the-fault t inputs L openings r lent (written-by t lent inputs s list a q end c) s list a (load-passes t lent inputs s list a q end c) (run-passes t lent inputs s list a q end c))
 
   -- AND BACK, WHERE THEY ARE ANSWERED COMPLETE

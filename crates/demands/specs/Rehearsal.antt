@@ -42,8 +42,7 @@ use Rattle.lowered.specs.Room.{checkAnswer, lowerRefusal, lowerAnswer, lentAfte
 use Rattle.laid.specs.Answers.{success-writes-the-graph-first, written-graph-is-accepted, written-graph-fits}
 use Rattle.laid.specs.Limits.{lowered-words}
 use Rattle.faithful.specs.Endings.{AsRead}
-use Rattle.faithful.specs.Faults.{ZeroStepNamed}
-use Rattle.faithful.specs.Statements.{loadedTable, streamNode, ConditionsTold, written-table-is-checked, lowered-table-means-its-reading, every-run-is-complete, zero-step-is-named, complete-run-means-the-reading}
+use Rattle.faithful.specs.Statements.{loadedTable, ConditionsTold, FaultNamed, written-table-is-checked, lowered-table-means-its-reading, every-run-is-complete, zero-step-is-named, complete-run-means-the-reading}
 
 -- the words that `lower` has written
 abbrev pub Graph : List ℕ → List ℕ → List ℕ
@@ -152,16 +151,16 @@ module _ (t : List ℕ) (checked : checkAnswer t .number ≡ 0) where
             },
       )
 
--- WHERE IT MEETS A ZERO STEP every run is SPENT, or ends with the STREAM of that loop waiting, and answers ZERO STEP with the lowest that waits so
+-- WHERE IT MEETS A ZERO STEP every run is SPENT, or ends with the STREAM of that loop waiting, and names the lowest that waits so
 pub rehearsal-meets-the-fault : (t inputs : List ℕ) (L : ℕ) (openings : List Opening) → Reads t inputs (zeroStep L openings)
     → (lent : List ℕ) → lowerAnswer t (length lent) .number ≡ 0 → (s list : List ℕ) (a : ℕ) → loadRefusal (Graph t lent) inputs s ≡ 0 → runRefusal (Graph t lent) (loadState (Graph t lent) inputs s) list ≡ 0
     → (ranOutcome (runAnswer (Graph t lent) (loadState (Graph t lent) inputs s) list a) .answer ≡ SPENT)
-    ⊎ ZeroStepNamed (loweredWords t) (runState (Graph t lent) (loadState (Graph t lent) inputs s) list a) (streamNode t L) (ranOutcome (runAnswer (Graph t lent) (loadState (Graph t lent) inputs s) list a))
+    ⊎ FaultNamed t L (runState (Graph t lent) (loadState (Graph t lent) inputs s) list a) (ranOutcome (runAnswer (Graph t lent) (loadState (Graph t lent) inputs s) list a))
 rehearsal-meets-the-fault t inputs L openings r lent w s list a loads runs =
     elim (ℕ-discrete (outcome (loweredWords t) (end t lent w inputs s loads list a runs) .answer) SPENT) [
       | yes e ↦ inl (ap (λ o. o .answer) shown ∙ e)
       | no n ↦ (let o = run-is-an-order (loweredWords t) list (loadedTable t inputs) a n in
-          inr (subst₂ (λ u x. ZeroStepNamed (loweredWords t) u (streamNode t L) x) (sym (state-is t lent w inputs s loads list a runs)) (sym shown)
+          inr (subst₂ (λ u x. FaultNamed t L u x) (sym (state-is t lent w inputs s loads list a runs)) (sym shown)
           (zero-step-is-named t (lowered-is-checked t lent w) inputs L openings r (madeBy (loweredWords t) list (loadedTable t inputs) a) (end t lent w inputs s loads list a runs) (o .0) (o .1))))
     ]
   where

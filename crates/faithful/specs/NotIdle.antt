@@ -4,7 +4,7 @@
 --   the-end-of-five                   all words of the state that it leaves
 --   no-turn-leaves-nothing            P11: every order that rests leaves 0; one zero has passed raw, nothing gated, and nothing stays behind
 --   the-inner-loop-opens-anew         P12: the result is 5; the inner loop's openings have 0, 1 and 2 turns
---   a-zero-step-is-answered           the sum table with step 0: every order that rests answers ZERO STEP
+--   a-zero-step-is-answered           the sum table with step 0: every order that rests answers ZERO STEP at node 0
 --   an-endless-loop-never-rests       a loop that goes on while its index is at most 0, and it stays 0: no order rests
 --
 -- Assumes nothing.
@@ -35,7 +35,7 @@ use Rattle.lowered.specs.Room.{ROOM, hasRoom, refusedBy, checkAnswer}
 use Rattle.lowered.specs.Cases.{lowering-computes, sum-table-lowers-to-the-102-words}
 use Rattle.faithful.specs.Conditions.{turnsOf}
 use Rattle.faithful.specs.EndState.{endState}
-use Rattle.faithful.specs.Statements.{loadedTable, rawWire, gatedWire, lowered-table-means-its-reading, the-end-state, zero-step-is-never-complete, endless-reading-never-rests}
+use Rattle.faithful.specs.Statements.{loadedTable, streamNode, rawWire, gatedWire, lowered-table-means-its-reading, the-end-state, zero-step-is-named, endless-reading-never-rests}
 
 -- everything that a refusal computes with, and everything that a reading does
 unfoldable pub check-computes : ℕ
@@ -116,9 +116,15 @@ zero-is-checked : checkAnswer (sumBy 0) .number ≡ 0
 unfolding checkAnswer refusedBy
 zero-is-checked = checked (size (sumBy 0)) (tableRefusal (sumBy 0)) (hasRoom (sumBy 0)) zero-passes zero-has-room
 
+zero-outermost : (bodyOf (sumBy 0) 3 ≡ size (sumBy 0)) × (streamNode (sumBy 0) 3 ≡ 0)
+unfolding lowering-computes
+zero-outermost = (refl, refl)
+
 pub a-zero-step-is-answered : (order u : List ℕ) → Fires (loweredWords (sumBy 0)) order (loadedTable (sumBy 0) (5 ∷ [])) u → AtRest (loweredWords (sumBy 0)) u
-    → outcome (loweredWords (sumBy 0)) u .answer ≡ ZERO-STEP
-a-zero-step-is-answered order u f h = zero-step-is-never-complete (sumBy 0) zero-is-checked (5 ∷ []) 3 [] zero-step-at-row-3 order u f h
+    → (outcome (loweredWords (sumBy 0)) u .answer ≡ ZERO-STEP) × (outcome (loweredWords (sumBy 0)) u .node ≡ 0)
+a-zero-step-is-answered order u f h =
+    let z = zero-step-is-named (sumBy 0) zero-is-checked (5 ∷ []) 3 [] zero-step-at-row-3 order u f h in
+    (z .met .answer, z .own (zero-outermost .0) ∙ zero-outermost .1)
 
 -- ---- a loop for ever: the index starts at 0, is multiplied by 1, and 0 <= 0
 

@@ -1,11 +1,11 @@
 -- NOT SO: two sentences on zero steps that are stronger than what holds, each with a table that refutes it.
 --
---   'The node named is the STREAM of the loop at whose FOR row the reading meets the zero step.' The graph does not wait for the reading: an outer
---   loop may have gone on to its second turn, in which a loop further up has a zero step too.
---     twoWait, two-wait-is-checked, two-wait-at-row-5     the reading meets the zero step at row 5
---     the-loop-at-row-3-is-named                          every order that rests names the STREAM of row 3; two-wait-rests: there is one
+-- It is not so that the node named is always the STREAM of the loop at whose FOR row the reading meets the zero step. The graph does not wait for
+-- the reading: a loop around it may have gone on to its next turn and met a zero step further up.
+--     indexSteps, index-steps-is-checked, index-steps-at-row-3     the reading meets the zero step at row 3
+--     the-loop-at-row-2-is-named                                   every order that rests names the STREAM of row 2; index-steps-rests: there is one
 --
---   'Where the reading meets a zero step, every order rests.' A loop further down that takes nothing from it may go on for ever.
+-- Nor that every order rests where the reading meets a zero step. A loop further down that takes nothing from it may go on for ever.
 --     besideEndless, beside-endless-is-checked, beside-endless-at-row-2     the reading meets the zero step at row 2
 --     beside-endless-never-rests                                            no order rests
 --
@@ -46,92 +46,92 @@ unfolding loaded startWord total joined everyFrom times nodeAt rowAt Kinds.kindO
 run-computes = 0
 
 -- ---- another loop is named
--- CONST 0, CONST 1, FOR 1 1 1 -= <=, FOR 0 2 0 += <, END, FOR 0 0 0 += <, END, END, OUT 0. The outer loop has turns with index 1 and 0; the index is
--- the step of the loop at row 3, which makes no turn; the step at row 5 is 0.
+-- CONST 1, FOR 0 0 0 -= <=, FOR 0 1 0 -= <=, FOR 0 2 0 += <, END, END, END, OUT 0: three loops, one in the other; the indexes of the outer two are 1
+-- and 0, and each is the step of the loop in it. In the outer loop's first turn the middle loop comes to its second, and the inner one has step 0. The
+-- machines of the outer two have nothing to wait for: in the outer loop's second turn the middle one has step 0.
 
-abbrev pub twoWait : List ℕ
-twoWait = const 0 (const 1 (loop 1 1 1 1 1 (loop 0 2 0 0 0 (close (loop 0 0 0 0 0 (close (close (out 0))))))))
+abbrev pub indexSteps : List ℕ
+indexSteps = const 1 (loop 0 0 0 1 1 (loop 0 1 0 1 1 (loop 0 2 0 0 0 (close (close (close (out 0)))))))
 
-two-wait-passes : tableRefusal twoWait ≡ answer 0 0
+index-steps-passes : tableRefusal indexSteps ≡ answer 0 0
 unfolding check-computes
-two-wait-passes = refl
+index-steps-passes = refl
 
-two-wait-has-room : hasRoom twoWait ≡ true
+index-steps-has-room : hasRoom indexSteps ≡ true
 unfolding hasRoom lowering-computes
-two-wait-has-room = refl
+index-steps-has-room = refl
 
-pub two-wait-is-checked : checkAnswer twoWait .number ≡ 0
+pub index-steps-is-checked : checkAnswer indexSteps .number ≡ 0
 unfolding checkAnswer refusedBy
-two-wait-is-checked = checked (size twoWait) (tableRefusal twoWait) (hasRoom twoWait) two-wait-passes two-wait-has-room
+index-steps-is-checked = checked (size indexSteps) (tableRefusal indexSteps) (hasRoom indexSteps) index-steps-passes index-steps-has-room
 
-pub two-wait-at-row-5 : Reads twoWait [] (zeroStep 5 (opening 2 1 ∷ opening 3 0 ∷ []))
+pub index-steps-at-row-3 : Reads indexSteps [] (zeroStep 3 (opening 1 1 ∷ opening 2 2 ∷ opening 3 0 ∷ []))
 unfolding reading-computes
-two-wait-at-row-5 = record { steps = 20; comes = refl }
+index-steps-at-row-3 = record { steps = 20; comes = refl }
 
-unfoldable twoWaitGraph : List ℕ
-twoWaitGraph =
-    31 ∷ 46 ∷ 2 ∷ 1 ∷
-    1 ∷ 0 ∷
+unfoldable indexGraph : List ℕ
+indexGraph =
+    31 ∷ 48 ∷ 1 ∷ 1 ∷
     1 ∷ 1 ∷
-    21 ∷
-    0 ∷ 6 ∷ 0 ∷ 22 ∷ 24 ∷ 26 ∷ 2 ∷
-    1 ∷ 0 ∷ 0 ∷ 2 ∷ 3 ∷ absent ∷ 4 ∷
-    7 ∷ 4 ∷ 0 ∷ 28 ∷ 29 ∷ absent ∷ 6 ∷
-    4 ∷ 0 ∷ 0 ∷ 6 ∷ 20 ∷ absent ∷ 7 ∷
-    3 ∷ 0 ∷ 0 ∷ 5 ∷ 7 ∷ absent ∷ 9 ∷
-    0 ∷ 0 ∷ 0 ∷ 30 ∷ 4 ∷ 32 ∷ 10 ∷
-    1 ∷ 0 ∷ 0 ∷ 10 ∷ 11 ∷ absent ∷ 12 ∷
-    7 ∷ 3 ∷ 0 ∷ 34 ∷ 36 ∷ absent ∷ 14 ∷
-    0 ∷ 0 ∷ 0 ∷ 38 ∷ 40 ∷ 42 ∷ 15 ∷
-    1 ∷ 0 ∷ 0 ∷ 15 ∷ 16 ∷ absent ∷ 17 ∷
-    7 ∷ 3 ∷ 0 ∷ 44 ∷ 45 ∷ absent ∷ 19 ∷
-    5 ∷ 0 ∷ 0 ∷ 0 ∷ absent ∷ absent ∷ 20 ∷
-    5 ∷ 0 ∷ 0 ∷ 1 ∷ absent ∷ absent ∷ 22 ∷
+    33 ∷
+    0 ∷ 6 ∷ 0 ∷ 22 ∷ 24 ∷ 26 ∷ 1 ∷
+    1 ∷ 0 ∷ 0 ∷ 1 ∷ 2 ∷ absent ∷ 3 ∷
+    7 ∷ 4 ∷ 0 ∷ 28 ∷ 30 ∷ absent ∷ 5 ∷
+    4 ∷ 0 ∷ 0 ∷ 5 ∷ 32 ∷ absent ∷ 6 ∷
+    3 ∷ 0 ∷ 0 ∷ 4 ∷ 6 ∷ absent ∷ 8 ∷
+    0 ∷ 6 ∷ 0 ∷ 34 ∷ 3 ∷ 36 ∷ 9 ∷
+    1 ∷ 0 ∷ 0 ∷ 9 ∷ 10 ∷ absent ∷ 11 ∷
+    7 ∷ 4 ∷ 0 ∷ 38 ∷ 40 ∷ absent ∷ 13 ∷
+    4 ∷ 0 ∷ 0 ∷ 13 ∷ 41 ∷ absent ∷ 14 ∷
+    3 ∷ 0 ∷ 0 ∷ 12 ∷ 14 ∷ absent ∷ 16 ∷
+    0 ∷ 0 ∷ 0 ∷ 42 ∷ 11 ∷ 44 ∷ 17 ∷
+    1 ∷ 0 ∷ 0 ∷ 17 ∷ 18 ∷ absent ∷ 19 ∷
+    7 ∷ 3 ∷ 0 ∷ 46 ∷ 47 ∷ absent ∷ 21 ∷
+    5 ∷ 0 ∷ 0 ∷ 0 ∷ absent ∷ absent ∷ 22 ∷
     5 ∷ 0 ∷ 0 ∷ 23 ∷ absent ∷ absent ∷ 24 ∷
     5 ∷ 0 ∷ 0 ∷ 25 ∷ absent ∷ absent ∷ 26 ∷
     5 ∷ 0 ∷ 0 ∷ 27 ∷ absent ∷ absent ∷ 28 ∷
-    6 ∷ 0 ∷ 0 ∷ 8 ∷ absent ∷ absent ∷ absent ∷
-    5 ∷ 0 ∷ 0 ∷ 9 ∷ absent ∷ absent ∷ 30 ∷
+    5 ∷ 0 ∷ 0 ∷ 29 ∷ absent ∷ absent ∷ 30 ∷
     5 ∷ 0 ∷ 0 ∷ 31 ∷ absent ∷ absent ∷ 32 ∷
-    5 ∷ 0 ∷ 0 ∷ 33 ∷ absent ∷ absent ∷ 34 ∷
+    6 ∷ 0 ∷ 0 ∷ 7 ∷ absent ∷ absent ∷ absent ∷
+    5 ∷ 0 ∷ 0 ∷ 8 ∷ absent ∷ absent ∷ 34 ∷
     5 ∷ 0 ∷ 0 ∷ 35 ∷ absent ∷ absent ∷ 36 ∷
     5 ∷ 0 ∷ 0 ∷ 37 ∷ absent ∷ absent ∷ 38 ∷
     5 ∷ 0 ∷ 0 ∷ 39 ∷ absent ∷ absent ∷ 40 ∷
-    5 ∷ 0 ∷ 0 ∷ 41 ∷ absent ∷ absent ∷ 42 ∷
+    6 ∷ 0 ∷ 0 ∷ 15 ∷ absent ∷ absent ∷ absent ∷
+    5 ∷ 0 ∷ 0 ∷ 16 ∷ absent ∷ absent ∷ 42 ∷
     5 ∷ 0 ∷ 0 ∷ 43 ∷ absent ∷ absent ∷ 44 ∷
-    6 ∷ 0 ∷ 0 ∷ 12 ∷ absent ∷ absent ∷ absent ∷
-    6 ∷ 0 ∷ 1 ∷ 13 ∷ absent ∷ absent ∷ absent ∷
-    6 ∷ 0 ∷ 1 ∷ 14 ∷ absent ∷ absent ∷ absent ∷
-    6 ∷ 0 ∷ 0 ∷ 17 ∷ absent ∷ absent ∷ absent ∷
-    6 ∷ 0 ∷ 1 ∷ 18 ∷ absent ∷ absent ∷ absent ∷
-    6 ∷ 0 ∷ 1 ∷ 19 ∷ absent ∷ absent ∷ absent ∷ []
+    5 ∷ 0 ∷ 0 ∷ 45 ∷ absent ∷ absent ∷ 46 ∷
+    6 ∷ 0 ∷ 0 ∷ 19 ∷ absent ∷ absent ∷ absent ∷
+    6 ∷ 0 ∷ 1 ∷ 20 ∷ absent ∷ absent ∷ absent ∷
+    6 ∷ 0 ∷ 1 ∷ 21 ∷ absent ∷ absent ∷ absent ∷ []
 
-two-wait-lowers : loweredWords twoWait ≡ twoWaitGraph
-unfolding lowering-computes twoWaitGraph
-two-wait-lowers = refl
+index-steps-lowers : loweredWords indexSteps ≡ indexGraph
+unfolding lowering-computes indexGraph
+index-steps-lowers = refl
 
-two-wait-ends : outcome twoWaitGraph (runOf twoWaitGraph [] (loaded twoWaitGraph []) 38 .state) ≡ record { answer = ZERO-STEP; node = 5 }
-unfolding twoWaitGraph run-computes
-two-wait-ends = refl
+index-steps-ends : outcome indexGraph (runOf indexGraph [] (loaded indexGraph []) 54 .state) ≡ record { answer = ZERO-STEP; node = 5 }
+unfolding indexGraph run-computes
+index-steps-ends = refl
 
 -- the STREAMs of the two loops
-pub the-two-streams : (streamNode twoWait 3 ≡ 5) × (streamNode twoWait 5 ≡ 8)
+pub the-two-streams : (streamNode indexSteps 2 ≡ 5) × (streamNode indexSteps 3 ≡ 10)
 unfolding lowering-computes
 the-two-streams = (refl, refl)
 
 -- some order rests
-pub two-wait-rests : (order : List ℕ) × (u : List ℕ) × Fires (loweredWords twoWait) order (loadedTable twoWait []) u × AtRest (loweredWords twoWait) u × (outcome (loweredWords twoWait) u .node ≡ 5)
-two-wait-rests =
-    subst (λ (g : List ℕ). (order : List ℕ) × (u : List ℕ) × Fires g order (loaded g []) u × AtRest g u × (outcome g u .node ≡ 5)) (sym two-wait-lowers)
-    (let o = run-is-an-order twoWaitGraph [] (loaded twoWaitGraph []) 38 (λ z. let y : ZERO-STEP ≡ SPENT = sym (ap (λ (x : Outcome). x .answer) two-wait-ends) ∙ z in omega arith) in
-    (madeBy twoWaitGraph [] (loaded twoWaitGraph []) 38, runOf twoWaitGraph [] (loaded twoWaitGraph []) 38 .state, o .0, o .1, ap (λ (x : Outcome). x .node) two-wait-ends))
+pub index-steps-rests : (order : List ℕ) × (u : List ℕ) × Fires (loweredWords indexSteps) order (loadedTable indexSteps []) u × AtRest (loweredWords indexSteps) u × (outcome (loweredWords indexSteps) u .node ≡ 5)
+index-steps-rests =
+    subst (λ (g : List ℕ). (order : List ℕ) × (u : List ℕ) × Fires g order (loaded g []) u × AtRest g u × (outcome g u .node ≡ 5)) (sym index-steps-lowers)
+    (let o = run-is-an-order indexGraph [] (loaded indexGraph []) 54 (λ z. let y : ZERO-STEP ≡ SPENT = sym (ap (λ (x : Outcome). x .answer) index-steps-ends) ∙ z in omega arith) in
+    (madeBy indexGraph [] (loaded indexGraph []) 54, runOf indexGraph [] (loaded indexGraph []) 54 .state, o .0, o .1, ap (λ (x : Outcome). x .node) index-steps-ends))
 
-pub the-loop-at-row-3-is-named : (order u : List ℕ) → Fires (loweredWords twoWait) order (loadedTable twoWait []) u → AtRest (loweredWords twoWait) u
-    → outcome (loweredWords twoWait) u .node ≡ streamNode twoWait 3
-the-loop-at-row-3-is-named order u f h =
-    let r = two-wait-rests in
-    let a = every-order-rests-alike (loweredWords twoWait) (checked-table-lowers twoWait two-wait-is-checked) (r .0) (loadedTable twoWait []) (r .1) (r .2) (r .3) order u f in
-    ap (λ (x : List ℕ). outcome (loweredWords twoWait) x .node) (a .same-words h) ∙ r .4 ∙ sym (the-two-streams .0)
+pub the-loop-at-row-2-is-named : (order u : List ℕ) → Fires (loweredWords indexSteps) order (loadedTable indexSteps []) u → AtRest (loweredWords indexSteps) u
+    → outcome (loweredWords indexSteps) u .node ≡ streamNode indexSteps 2
+the-loop-at-row-2-is-named order u f h =
+    let r = index-steps-rests in
+    let a = every-order-rests-alike (loweredWords indexSteps) (checked-table-lowers indexSteps index-steps-is-checked) (r .0) (loadedTable indexSteps []) (r .1) (r .2) (r .3) order u f in
+    ap (λ (x : List ℕ). outcome (loweredWords indexSteps) x .node) (a .same-words h) ∙ r .4 ∙ sym (the-two-streams .0)
 
 -- ---- no order rests
 -- CONST 0, CONST 1, FOR 0 0 0 += <, END, FOR 0 1 0 *= <=, END, OUT 0. The step at row 2 is 0; the index of the loop at row 4 stays 0.

@@ -5,11 +5,8 @@
 --   lowered-table-means-its-reading   every order rests after the same number of firings, with the reading's words and nothing else
 --   the-end-state                     so the end state, all its words, is `endState`
 --   every-run-is-complete             so every run with that allowance, whatever its list, answers COMPLETE in that state
---   zero-step-is-named                where the reading meets a zero step, in every order that rests the STREAM of that loop waits with it, and ZERO
---                                     STEP is answered with the lowest node that waits so
---   zero-step-is-not-behind           and the node is of no loop that the reading has left: where an outermost loop stands at that row or above it, not
---                                     below that loop's STREAM
---   outermost-zero-step-is-named      so where that loop stands in no other, the node named is its STREAM
+--   zero-step-is-named                where the reading meets a zero step, in every order that rests the STREAM of that loop waits with it; ZERO STEP is
+--                                     answered with the lowest node that waits so, which is of no loop that the reading has left
 --   zero-step-is-never-complete       so every order that rests answers ZERO STEP
 --   no-run-completes-a-fault          so no run, whatever its list and allowance, answers COMPLETE there
 --   rest-bounds-the-reading           where an order rests after F firings, the reading comes to an outcome, within a number of steps that F fixes
@@ -49,6 +46,7 @@ use Rattle.graph.specs.Refusal.{graphRefusal}
 use Rattle.graph.specs.Accepted.{node-in-range}
 use Rattle.state.specs.Load.{loaded}
 use Rattle.state.specs.Net.{netOf}
+use Rattle.state.specs.Run
 use Rattle.state.specs.Run.{COMPLETE, SPENT, STRANDED, ZERO-STEP, outcome}
 use Rattle.confluence.specs.Statements.{Fires, AtRest, putOnWire, every-order-rests-alike, runOf, madeBy, enough-is-not-spent, run-is-an-order}
 use Rattle.table.specs.Rows.{kindOf, size, FOR}
@@ -114,6 +112,15 @@ pub record Faithful (t inputs words : List ℕ) (openings : List Opening) (F : �
   pub gated-so-far : (L : ℕ) → kindOf t L ≡ FOR → (rest : List ℕ) × (putOnWire (loweredWords t) order (loadedTable t inputs) (gatedWire t L) ++ rest ≡ gatedOf (turnsOf L openings))
   -- and if it rests, it ends as the reading does
   pub ends : AtRest (loweredWords t) u → EndsAsRead t inputs words openings F order u
+
+-- What an answer o where an order rests in u has to do with the zero step that the reading met at FOR row L.
+pub record FaultNamed (t : List ℕ) (L : ℕ) (u : List ℕ) (o : Run.Outcome) : Type 0 where
+  -- that loop's STREAM waits with a zero step; o is ZERO STEP and names a STREAM that waits so, the lowest that does
+  pub met : ZeroStepNamed (loweredWords t) u (streamNode t L) o
+  -- it is of no loop that the reading has left: not below the STREAM of any loop of the outermost body at row L or above
+  pub not-behind : (M : ℕ) → kindOf t M ≡ FOR → bodyOf t M ≡ size t → M ≤ L → streamNode t M ≤ o .node
+  -- so where L stands in no other loop, its own STREAM is named
+  pub own : bodyOf t L ≡ size t → o .node ≡ streamNode t L
 
 -- ---- from the check's answer
 
@@ -241,41 +248,35 @@ module _ (t : List ℕ) (checked : checkAnswer t .number ≡ 0) where
       go (inl e) = let k = e .outcome in let z : _≡_ {A = ℕ} 0 1 = cc in absurd (omega arith)
       go (inr e) = let k = e .outcome in let d : e .loop ≡ L = cc in subst (AtFault t S ok inputs) d (at-fault t S ok inputs (zeroStep L openings) e)
 
-  -- In every order that rests the STREAM of that loop waits with the zero step; ZERO STEP is answered, and the lowest STREAM that waits so is named.
+  -- In every order that rests the STREAM of that loop waits with the zero step, and ZERO STEP is answered with the lowest node that waits so.
   pub zero-step-is-named : (inputs : List ℕ) (L : ℕ) (openings : List Opening) → Reads t inputs (zeroStep L openings)
-      → (order u : List ℕ) → Fires (loweredWords t) order (loadedTable t inputs) u → AtRest (loweredWords t) u
-      → ZeroStepNamed (loweredWords t) u (streamNode t L) (outcome (loweredWords t) u)
-  zero-step-is-named inputs L openings r order u q h =
-      let f = faulted-order inputs L openings r in
-      let a = every-order-rests-alike (loweredWords t) ok order (loadedTable t inputs) u q h (f .order) (f .state) (f .fires) in
-      let Z = zero-step-lasts (loweredWords t) ok (a .extends .0) (f .state) u (streamNode t L) (f .waits) (a .extends .1) in
-      answers-zero-step (loweredWords t) u (streamNode t L) (node-in-range (loweredWords t) (streamNode t L) (Z .node) (Z .here)) Z h (not-complete t S ok u L (f .is-for) Z)
-
-  -- The node named is none of what the reading has left: not below the STREAM of an outermost loop at that row or above it.
-  pub zero-step-is-not-behind : (inputs : List ℕ) (L : ℕ) (openings : List Opening) → Reads t inputs (zeroStep L openings)
-      → (order u : List ℕ) → Fires (loweredWords t) order (loadedTable t inputs) u → AtRest (loweredWords t) u
-      → (M : ℕ) → kindOf t M ≡ FOR → bodyOf t M ≡ size t → M ≤ L → streamNode t M ≤ outcome (loweredWords t) u .node
+      → (order u : List ℕ) → Fires (loweredWords t) order (loadedTable t inputs) u → AtRest (loweredWords t) u → FaultNamed t L u (outcome (loweredWords t) u)
   unfolding bodyOf readStack reads
-  zero-step-is-not-behind inputs L openings r order u q h M k b come =
-      let f = faulted-order inputs L openings r in
-      let a = every-order-rests-alike (loweredWords t) ok order (loadedTable t inputs) u q h (f .order) (f .state) (f .fires) in
-      let here = for-row t S M k in
-      let outside : reads t M ≡ size t = rw k b in
-      let x = hushed-run t S ok M here outside (a .extends .0) (f .state) u (f .tokens) (f .flat) (f .hushed M here outside come) (a .extends .1) in
-      waits-late t S ok M here outside u (x .0) (x .1) (x .2) (outcome (loweredWords t) u .node) (zero-step-is-named inputs L openings r order u q h .named)
+  zero-step-is-named inputs L openings r order u q h =
+      record { met = met; not-behind = not-behind; own = λ b. let low = not-behind L (for-kind t S L (f .is-for) .1) b (omega arith) in let high = met .at-most in omega arith }
+    where
+      f : AtFault t S ok inputs L
+      f = faulted-order inputs L openings r
 
-  -- So where that loop stands in no other, the node named is its STREAM.
-  pub outermost-zero-step-is-named : (inputs : List ℕ) (L : ℕ) (openings : List Opening) → Reads t inputs (zeroStep L openings) → bodyOf t L ≡ size t
-      → (order u : List ℕ) → Fires (loweredWords t) order (loadedTable t inputs) u → AtRest (loweredWords t) u → outcome (loweredWords t) u .node ≡ streamNode t L
-  outermost-zero-step-is-named inputs L openings r b order u q h =
-      let k = for-kind t S L (faulted-order inputs L openings r .is-for) .1 in
-      let low = zero-step-is-not-behind inputs L openings r order u q h L k b (omega arith) in
-      let high = zero-step-is-named inputs L openings r order u q h .at-most in
-      omega arith
+      -- the rest of an order that follows the reading there
+      later : (more : List ℕ) × Fires (loweredWords t) more (f .state) u
+      later = let a = every-order-rests-alike (loweredWords t) ok order (loadedTable t inputs) u q h (f .order) (f .state) (f .fires) .extends in (a .0, a .1)
+
+      met : ZeroStepNamed (loweredWords t) u (streamNode t L) (outcome (loweredWords t) u)
+      met =
+          let Z = zero-step-lasts (loweredWords t) ok (later .0) (f .state) u (streamNode t L) (f .waits) (later .1) in
+          answers-zero-step (loweredWords t) u (streamNode t L) (node-in-range (loweredWords t) (streamNode t L) (Z .node) (Z .here)) Z h (not-complete t S ok u L (f .is-for) Z)
+
+      not-behind : (M : ℕ) → kindOf t M ≡ FOR → bodyOf t M ≡ size t → M ≤ L → streamNode t M ≤ outcome (loweredWords t) u .node
+      not-behind M k b come =
+          let here = for-row t S M k in
+          let outside : reads t M ≡ size t = rw k b in
+          let x = hushed-run t S ok M here outside (later .0) (f .state) u (f .tokens) (f .flat) (f .hushed M here outside come) (later .1) in
+          waits-late t S ok M here outside u (x .0) (x .1) (x .2) (outcome (loweredWords t) u .node) (met .named)
 
   pub zero-step-is-never-complete : (inputs : List ℕ) (L : ℕ) (openings : List Opening) → Reads t inputs (zeroStep L openings)
       → (order u : List ℕ) → Fires (loweredWords t) order (loadedTable t inputs) u → AtRest (loweredWords t) u → outcome (loweredWords t) u .answer ≡ ZERO-STEP
-  zero-step-is-never-complete inputs L openings r order u q h = zero-step-is-named inputs L openings r order u q h .answer
+  zero-step-is-never-complete inputs L openings r order u q h = zero-step-is-named inputs L openings r order u q h .met .answer
 
   -- So no run answers COMPLETE.
   pub no-run-completes-a-fault : (inputs : List ℕ) (L : ℕ) (openings : List Opening) → Reads t inputs (zeroStep L openings)
