@@ -1,10 +1,12 @@
 -- THE THIRD DEMAND OVER THE ENTRIES' CONTRACTS. The numbers and words are whatever the calls gave back; of them nothing is known but what the entries promise.
 --
 --   Called                        `lower` on lent words, `load` of what it wrote, `run` of what that left, none refused
---   calls-go-through              there are such calls wherever the lengths and the list are right
+--   calls-go-through              there are such calls wherever `lower` answers 0, table and inputs are words, and the lengths and the list are right
 --   calls-rehearse-the-reading    where the reading ends there is one F: with an allowance of F or more every three calls are answered COMPLETE with F
---                                 firings, and the state holds the reading's words and nothing else
---   calls-meet-the-fault          where it meets a zero step, they are answered SPENT or ZERO STEP
+--                                 firings, the state holds the reading's words and nothing else, and N + 1 raw and N gated conditions have passed for each
+--                                 opening of N turns
+--   calls-meet-the-fault          where it meets a zero step, they are answered SPENT, or ZERO STEP with the lowest STREAM that waits with a zero step,
+--                                 and the STREAM of that loop is one
 --   complete-calls-read           where they are answered COMPLETE, the reading ends, and the state holds its words and nothing else
 --   FireCalls                     calls of `fire` one after another, each answered that the node has fired
 --   fire-calls-are-firings        they are firings of the rule, in that order
@@ -18,13 +20,13 @@ use mathlib.Core.Bool.{Bool, true, false}
 use mathlib.Core.List.{List, [], _∷_}
 use mathlib.Core.Option.{Option, none, some}
 use native.Mathlib.Omega.{arith}
-use native.Mathlib.Decide.{decLt}
+use native.Mathlib.Decide.{decLt, ℕ-discrete}
 use borrow.Author.Tests.{eq-eqb}
 use lib.ListN.{length, take}
 use Rattle.word.specs.Words.{pick}
 use Rattle.graph.specs.Graph.{nodeCount}
 use Rattle.state.specs.Net.{netOf, fire, isReady, orElse}
-use Rattle.state.specs.Run.{SPENT, ZERO-STEP}
+use Rattle.state.specs.Run.{SPENT}
 use Rattle.machine.specs.Entries.{loadRefusal, loadState, LoadAnswer, fireRefusal, fireState, firedNumber, firedFlag, FireAnswer}
 use Rattle.machine.specs.declared.Fired.{Fired}
 use Rattle.machine.specs.declared.Fired.the-variants.{NotReady, Done}
@@ -34,7 +36,7 @@ use Rattle.run.specs.declared.Ran.{Ran}
 use Rattle.run.specs.declared.Ran.the-variants.{Complete}
 use Rattle.confluence.specs.Orders.{fires-none, fires-on}
 use Rattle.confluence.specs.Graphs.{none-past-last}
-use Rattle.confluence.specs.Statements.{Fires, AtRest}
+use Rattle.confluence.specs.Statements.{Fires, AtRest, madeBy}
 use Rattle.legality.specs.Legality.{Words}
 use Rattle.reading.specs.Reading.{Opening, ended, zeroStep}
 use Rattle.reading.specs.Outcome.{Reads}
@@ -42,8 +44,8 @@ use Rattle.lowered.specs.Lower.{loweredWords}
 use Rattle.lowered.specs.Room.{checkAnswer, lowerAnswer, lentAfter}
 use Rattle.lowering.specs.Answers.{LowerAnswer}
 use Rattle.faithful.specs.Endings.{AsRead}
-use Rattle.faithful.specs.Statements.{EndsAsRead, loadedTable, lowered-table-means-its-reading}
-use Rattle.demands.specs.Rehearsal.{Graph, graph-is-lowered, only-the-list-is-refused, loaded-is, rehearsal-is-the-reading, rehearsal-meets-the-fault, complete-is-the-reading}
+use Rattle.faithful.specs.Statements.{EndsAsRead, ConditionsTold, FaultNamed, loadedTable, lowered-table-means-its-reading}
+use Rattle.demands.specs.Rehearsal.{Graph, graph-is-lowered, lowered-is-checked, only-the-list-is-refused, loaded-is, rehearsal-is-the-reading, rehearsal-meets-the-fault, complete-is-the-reading}
 
 pub record Called (t lent inputs s list : List ℕ) (a : ℕ) (q : Ran) (end : List ℕ) : Type 0 where
   pub row : ℕ
@@ -56,10 +58,10 @@ pub record Called (t lent inputs s list : List ℕ) (a : ℕ) (q : Ran) (end : L
   pub not-refused : ranNumber q ≡ 0
 
 module _ (t lent inputs s list : List ℕ) (a : ℕ) where
-  -- what the entries promise can be had wherever nothing is refused
-  pub calls-go-through : lowerAnswer t (length lent) .number ≡ 0 → Words (Graph t lent) → Words inputs → loadRefusal (Graph t lent) inputs s ≡ 0 → orderBelow (Graph t lent) list ≡ true
+  -- What the entries promise can be had wherever nothing is refused. Words of lent slices are below 2^32.
+  pub calls-go-through : lowerAnswer t (length lent) .number ≡ 0 → Words t → Words inputs → loadRefusal (Graph t lent) inputs s ≡ 0 → orderBelow (Graph t lent) list ≡ true
       → Called t lent inputs s list a (runAnswer (Graph t lent) (loadState (Graph t lent) inputs s) list a) (runState (Graph t lent) (loadState (Graph t lent) inputs s) list a)
-  calls-go-through w wg wi loads below =
+  calls-go-through w wt wi loads below =
       record {
         row = lowerAnswer t (length lent) .row;
         length = lowerAnswer t (length lent) .length;
@@ -68,7 +70,7 @@ module _ (t lent inputs s list : List ℕ) (a : ℕ) where
         lowers = record { answer = rw w; lent-words = refl };
         loads = record { number = sym loads; state = refl };
         runs = run-answers (Graph t lent) (loadState (Graph t lent) inputs s) list a _ _ refl refl;
-        not-refused = run-number (Graph t lent) (loadState (Graph t lent) inputs s) list a ∙ only-the-list-is-refused t lent w inputs s wg wi loads list ∙ ap (λ (b : Bool). pick b 0 18) below;
+        not-refused = run-number (Graph t lent) (loadState (Graph t lent) inputs s) list a ∙ only-the-list-is-refused t lent w inputs s wt wi loads list ∙ ap (λ (b : Bool). pick b 0 18) below;
       }
 
   module _ (q : Ran) (end : List ℕ) (c : Called t lent inputs s list a q end) where
@@ -93,30 +95,47 @@ module _ (t lent inputs s list : List ℕ) (a : ℕ) where
     left : end ≡ runState (Graph t lent) (loadState (Graph t lent) inputs s) list a
     left = c .runs .state ∙ ap₂ (λ (g z : List ℕ). runState g z list a) graph-is state-left
 
-module _ (t : List ℕ) (checked : checkAnswer t .number ≡ 0) (inputs : List ℕ) where
+-- What three calls with list and allowance a gave back, q and the state's words, has to do with the reading: answer and firings, every word of the
+-- state, and what the firings that the run made have put on each loop's conditions.
+pub record CallsAsRead (t inputs words : List ℕ) (openings : List Opening) (F : ℕ) (list : List ℕ) (a : ℕ) (q : Ran) (end : List ℕ) : Type 0 where
+  pub answer : q ≡ Complete F
+  pub state : AsRead t words end
+  pub conditions : ConditionsTold t openings (madeBy (loweredWords t) list (loadedTable t inputs) a) (loadedTable t inputs)
+
+module _ (t inputs : List ℕ) where
   -- THREE CALLS, WHERE THE READING ENDS
   pub calls-rehearse-the-reading : (words : List ℕ) (openings : List Opening) → Reads t inputs (ended words openings)
-      → (F : ℕ) × ((lent s list : List ℕ) (a : ℕ) (q : Ran) (end : List ℕ) → Called t lent inputs s list a q end → F ≤ a → (q ≡ Complete F) × AsRead t words end)
+      → (F : ℕ) × ((lent s list : List ℕ) (a : ℕ) (q : Ran) (end : List ℕ) → Called t lent inputs s list a q end → F ≤ a → CallsAsRead t inputs words openings F list a q end)
   calls-rehearse-the-reading words openings r =
-      let R = rehearsal-is-the-reading t checked inputs words openings r in (
-        R .0,
-        λ lent s list a q end c enough.
-            let x = R .1 lent (written-by t lent inputs s list a q end c) s list a (load-passes t lent inputs s list a q end c) (run-passes t lent inputs s list a q end c) enough in
-            (answered t lent inputs s list a q end c ∙ x .answer, subst (AsRead t words) (sym (left t lent inputs s list a q end c)) (x .state)),
-      )
+      elim (ℕ-discrete (checkAnswer t .number) 0) [
+        | yes checked ↦
+            let R = rehearsal-is-the-reading t checked inputs words openings r in (
+              R .0,
+              λ lent s list a q end c enough.
+                  let x = R .1 lent (written-by t lent inputs s list a q end c) s list a (load-passes t lent inputs s list a q end c) (run-passes t lent inputs s list a q end c) enough in
+                  record {
+                    answer = answered t lent inputs s list a q end c ∙ x .answer;
+                    state = subst (AsRead t words) (sym (left t lent inputs s list a q end c)) (x .state);
+                    conditions = x .conditions;
+                  },
+            )
+        -- no call of `lower` goes through
+        | no n ↦ (0, λ lent s list a q end c enough. absurd (n (lowered-is-checked t lent (written-by t lent inputs s list a q end c))))
+      ]
 
   -- AND WHERE IT MEETS A ZERO STEP
   pub calls-meet-the-fault : (L : ℕ) (openings : List Opening) → Reads t inputs (zeroStep L openings)
-      → (lent s list : List ℕ) (a : ℕ) (q : Ran) (end : List ℕ) → Called t lent inputs s list a q end → (ranOutcome q .answer ≡ SPENT) ⊎ (ranOutcome q .answer ≡ ZERO-STEP)
+      → (lent s list : List ℕ) (a : ℕ) (q : Ran) (end : List ℕ) → Called t lent inputs s list a q end
+      → (ranOutcome q .answer ≡ SPENT) ⊎ FaultNamed t L end (ranOutcome q)
   calls-meet-the-fault L openings r lent s list a q end c =
-      subst (λ (x : Ran). (ranOutcome x .answer ≡ SPENT) ⊎ (ranOutcome x .answer ≡ ZERO-STEP)) (sym (answered t lent inputs s list a q end c))
-      (rehearsal-meets-the-fault t checked inputs L openings r lent (written-by t lent inputs s list a q end c) s list a (load-passes t lent inputs s list a q end c) (run-passes t lent inputs s list a q end c))
+      subst₂ (λ (x : Ran) (u : List ℕ). (ranOutcome x .answer ≡ SPENT) ⊎ FaultNamed t L u (ranOutcome x)) (sym (answered t lent inputs s list a q end c)) (sym (left t lent inputs s list a q end c))
+      (rehearsal-meets-the-fault t inputs L openings r lent (written-by t lent inputs s list a q end c) s list a (load-passes t lent inputs s list a q end c) (run-passes t lent inputs s list a q end c))
 
   -- AND BACK, WHERE THEY ARE ANSWERED COMPLETE
   pub complete-calls-read : (lent s list : List ℕ) (a F : ℕ) (q : Ran) (end : List ℕ) → Called t lent inputs s list a q end → q ≡ Complete F
       → (words : List ℕ) × (openings : List Opening) × Reads t inputs (ended words openings) × AsRead t words end
   complete-calls-read lent s list a F q end c e =
-      let x = complete-is-the-reading t checked inputs lent (written-by t lent inputs s list a q end c) s list a F (load-passes t lent inputs s list a q end c) (run-passes t lent inputs s list a q end c)
+      let x = complete-is-the-reading t inputs lent (written-by t lent inputs s list a q end c) s list a F (load-passes t lent inputs s list a q end c) (run-passes t lent inputs s list a q end c)
       (sym (answered t lent inputs s list a q end c) ∙ e) in
       (x .0, x .1, x .2, subst (AsRead t (x .0)) (sym (left t lent inputs s list a q end c)) (x .3))
 
@@ -164,17 +183,20 @@ none-ready-rests g u n i =
     ]
 
 -- CALLS OF `fire` IN ANY ORDER, WHERE THE READING ENDS: until no node is ready they are F, and end as the reading does.
-module _ (t : List ℕ) (checked : checkAnswer t .number ≡ 0) (inputs : List ℕ) where
-  pub fire-calls-rehearse-the-reading : (words : List ℕ) (openings : List Opening) → Reads t inputs (ended words openings)
-      → (F : ℕ)
-      × ((lent s : List ℕ) → lowerAnswer t (length lent) .number ≡ 0 → loadRefusal (Graph t lent) inputs s ≡ 0 → (order u : List ℕ) → FireCalls (Graph t lent) order (loadState (Graph t lent) inputs s) u
-      → (length order ≤ F) × (NoneReady (Graph t lent) u → EndsAsRead t inputs words openings F order u))
-  fire-calls-rehearse-the-reading words openings r =
-      let R = lowered-table-means-its-reading t checked inputs words openings r in (
-        R .0,
-        λ lent s w loads order u c.
-            let g = graph-is-lowered t lent w in
-            let f : Fires (loweredWords t) order (loadedTable t inputs) u = subst₂ (λ (g z : List ℕ). Fires g order z u) g (loaded-is t lent w inputs s loads) (fire-calls-are-firings (Graph t lent) order (loadState (Graph t lent) inputs s) u c) in
-            let x = R .1 order u f in
-            (x .at-most, λ n. x .ends (subst (λ (z : List ℕ). AtRest z u) g (none-ready-rests (Graph t lent) u n))),
-      )
+pub fire-calls-rehearse-the-reading : (t inputs words : List ℕ) (openings : List Opening) → Reads t inputs (ended words openings)
+    → (F : ℕ)
+    × ((lent s : List ℕ) → lowerAnswer t (length lent) .number ≡ 0 → loadRefusal (Graph t lent) inputs s ≡ 0 → (order u : List ℕ) → FireCalls (Graph t lent) order (loadState (Graph t lent) inputs s) u
+    → (length order ≤ F) × (NoneReady (Graph t lent) u → EndsAsRead t inputs words openings F order u))
+fire-calls-rehearse-the-reading t inputs words openings r =
+    elim (ℕ-discrete (checkAnswer t .number) 0) [
+      | yes checked ↦
+          let R = lowered-table-means-its-reading t checked inputs words openings r in (
+            R .0,
+            λ lent s w loads order u c.
+                let g = graph-is-lowered t lent w in
+                let f : Fires (loweredWords t) order (loadedTable t inputs) u = subst₂ (λ (g z : List ℕ). Fires g order z u) g (loaded-is t lent w inputs s loads) (fire-calls-are-firings (Graph t lent) order (loadState (Graph t lent) inputs s) u c) in
+                let x = R .1 order u f in
+                (x .at-most, λ n. x .ends (subst (λ (z : List ℕ). AtRest z u) g (none-ready-rests (Graph t lent) u n))),
+          )
+      | no n ↦ (0, λ lent s w loads order u c. absurd (n (lowered-is-checked t lent w)))
+    ]

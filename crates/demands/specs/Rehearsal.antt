@@ -3,16 +3,17 @@
 --
 --   Graph                         the words that `lower` has written: as many as it answers
 --   graph-is-lowered              they are the table's graph, whatever was lent; graph-is-accepted: `check_graph` answers 0
---   only-inputs-are-refused       `load` refuses it for the inputs' or the state's length alone; only-the-list-is-refused: `run` for its list alone
+--   only-inputs-are-refused       `load` refuses it for the inputs' or the state's length alone; only-the-list-is-refused: `run` for its list alone,
+--                                 where table and inputs are words, below 2^32
 --   rehearsal-is-the-reading      where the plain reading ends, every run with enough allowance answers COMPLETE with the same firings, whatever was lent
 --                                 and whatever its list, leaves the reading's words and nothing else, and has passed N + 1 raw and N gated conditions for
 --                                 each opening of N turns
---   rehearsal-meets-the-fault     where it meets a zero step, every run is SPENT or answers ZERO STEP
+--   rehearsal-meets-the-fault     where it meets a zero step, every run is SPENT or leaves the STREAM of that loop waiting with it, and answers ZERO STEP
 --   complete-is-the-reading       a run that answers COMPLETE: the plain reading ends, and the run has left its words and nothing else
 --
 -- Assumes nothing.
 use Prim.Native.Nat.{ℕ, _+_, _-_, _≤_}
-use mathlib.Core.Path.{_≡_, refl, sym, ap, ap₂, _∙_, subst}
+use mathlib.Core.Path.{_≡_, refl, sym, ap, ap₂, _∙_, subst, subst₂}
 use mathlib.Core.Logic.{_⊎_, inl, inr}
 use mathlib.Core.Bool.{Bool, cond}
 use mathlib.Core.List.{List, [], _∷_, _++_}
@@ -26,7 +27,7 @@ use Rattle.word.specs.Words.{pick}
 use Rattle.graph.specs.Refusal.{graphRefusal}
 use Rattle.state.specs.Legal.{rightLength}
 use Rattle.state.specs.Load.{inputCount, loaded}
-use Rattle.state.specs.Run.{COMPLETE, SPENT, ZERO-STEP, Outcome, outcome}
+use Rattle.state.specs.Run.{COMPLETE, SPENT, Outcome, outcome}
 use Rattle.machine.specs.Entries.{first, stateRefusal, loadRefusal, loadState}
 use Rattle.run.specs.Entry.{orderBelow, runRefusal, runAt, runState, runFirings, ranBy, runAnswer, ranOutcome}
 use Rattle.run.specs.Numbers.{ran-shown}
@@ -39,8 +40,9 @@ use Rattle.reading.specs.Outcome.{Reads}
 use Rattle.lowered.specs.Lower.{loweredWords}
 use Rattle.lowered.specs.Room.{checkAnswer, lowerRefusal, lowerAnswer, lentAfter}
 use Rattle.laid.specs.Answers.{success-writes-the-graph-first, written-graph-is-accepted, written-graph-fits}
+use Rattle.laid.specs.Limits.{lowered-words}
 use Rattle.faithful.specs.Endings.{AsRead}
-use Rattle.faithful.specs.Statements.{loadedTable, ConditionsTold, lowered-table-means-its-reading, every-run-is-complete, zero-step-is-never-complete, complete-run-means-the-reading}
+use Rattle.faithful.specs.Statements.{loadedTable, ConditionsTold, FaultNamed, written-table-is-checked, lowered-table-means-its-reading, every-run-is-complete, zero-step-is-named, complete-run-means-the-reading}
 
 -- the words that `lower` has written
 abbrev pub Graph : List ℕ → List ℕ → List ℕ
@@ -76,10 +78,15 @@ module _ (t lent : List ℕ) (written : lowerAnswer t (length lent) .number ≡ 
   only-inputs-are-refused inputs s =
       ap (λ (b : Bool). pick b (first (pick (rightLength (Graph t lent) s) 0 17) (pick (eqb (length inputs) (inputCount (Graph t lent))) 0 16)) (graphRefusal (Graph t lent))) (eq-eqb _ _ graph-is-accepted)
 
-  pub only-the-list-is-refused : (inputs s : List ℕ) → Words (Graph t lent) → Words inputs → loadRefusal (Graph t lent) inputs s ≡ 0 → (list : List ℕ)
+  -- a table that `lower` has written is checked
+  pub lowered-is-checked : checkAnswer t .number ≡ 0
+  lowered-is-checked = written-table-is-checked t (length lent) no-refusal
+
+  pub only-the-list-is-refused : (inputs s : List ℕ) → Words t → Words inputs → loadRefusal (Graph t lent) inputs s ≡ 0 → (list : List ℕ)
       → runRefusal (Graph t lent) (loadState (Graph t lent) inputs s) list ≡ pick (orderBelow (Graph t lent) list) 0 18
   unfolding runRefusal
-  only-the-list-is-refused inputs s wg wi loads list =
+  only-the-list-is-refused inputs s wt wi loads list =
+      let wg = subst Words (sym graph-is-lowered) (lowered-words t lowered-is-checked wt) in
       ap (λ (b : Bool). pick b (pick (orderBelow (Graph t lent) list) 0 18) (stateRefusal (Graph t lent) (loadState (Graph t lent) inputs s))) (eq-eqb _ _ (load-leaves-right (Graph t lent) inputs s wg wi loads))
 
   -- ---- one call after the other
@@ -144,29 +151,31 @@ module _ (t : List ℕ) (checked : checkAnswer t .number ≡ 0) where
             },
       )
 
-  -- WHERE IT MEETS A ZERO STEP every run is SPENT or answers ZERO STEP
-  pub rehearsal-meets-the-fault : (inputs : List ℕ) (L : ℕ) (openings : List Opening) → Reads t inputs (zeroStep L openings)
-      → (lent : List ℕ) → lowerAnswer t (length lent) .number ≡ 0 → (s list : List ℕ) (a : ℕ) → loadRefusal (Graph t lent) inputs s ≡ 0 → runRefusal (Graph t lent) (loadState (Graph t lent) inputs s) list ≡ 0
-      → (ranOutcome (runAnswer (Graph t lent) (loadState (Graph t lent) inputs s) list a) .answer ≡ SPENT) ⊎ (ranOutcome (runAnswer (Graph t lent) (loadState (Graph t lent) inputs s) list a) .answer ≡ ZERO-STEP)
-  rehearsal-meets-the-fault inputs L openings r lent w s list a loads runs =
-      elim (ℕ-discrete (outcome (loweredWords t) (end t lent w inputs s loads list a runs) .answer) SPENT) [
-        | yes e ↦ inl (shown ∙ e)
-        | no n ↦ (let o = run-is-an-order (loweredWords t) list (loadedTable t inputs) a n in
-            inr (shown ∙ zero-step-is-never-complete t checked inputs L openings r (madeBy (loweredWords t) list (loadedTable t inputs) a) (end t lent w inputs s loads list a runs) (o .0) (o .1)))
-      ]
-    where
-      shown : ranOutcome (runAnswer (Graph t lent) (loadState (Graph t lent) inputs s) list a) .answer ≡ outcome (loweredWords t) (end t lent w inputs s loads list a runs) .answer
-      shown =
-          ap (λ x. ranOutcome x .answer) (answer-is t lent w inputs s loads list a runs)
-          ∙ ap (λ o. o .answer) (ran-shown (loweredWords t) (end t lent w inputs s loads list a runs) (made t lent w inputs s loads list a runs) .1)
+-- WHERE IT MEETS A ZERO STEP every run is SPENT, or ends with the STREAM of that loop waiting, and names the lowest that waits so
+pub rehearsal-meets-the-fault : (t inputs : List ℕ) (L : ℕ) (openings : List Opening) → Reads t inputs (zeroStep L openings)
+    → (lent : List ℕ) → lowerAnswer t (length lent) .number ≡ 0 → (s list : List ℕ) (a : ℕ) → loadRefusal (Graph t lent) inputs s ≡ 0 → runRefusal (Graph t lent) (loadState (Graph t lent) inputs s) list ≡ 0
+    → (ranOutcome (runAnswer (Graph t lent) (loadState (Graph t lent) inputs s) list a) .answer ≡ SPENT)
+    ⊎ FaultNamed t L (runState (Graph t lent) (loadState (Graph t lent) inputs s) list a) (ranOutcome (runAnswer (Graph t lent) (loadState (Graph t lent) inputs s) list a))
+rehearsal-meets-the-fault t inputs L openings r lent w s list a loads runs =
+    elim (ℕ-discrete (outcome (loweredWords t) (end t lent w inputs s loads list a runs) .answer) SPENT) [
+      | yes e ↦ inl (ap (λ o. o .answer) shown ∙ e)
+      | no n ↦ (let o = run-is-an-order (loweredWords t) list (loadedTable t inputs) a n in
+          inr (subst₂ (λ u x. FaultNamed t L u x) (sym (state-is t lent w inputs s loads list a runs)) (sym shown)
+          (zero-step-is-named t (lowered-is-checked t lent w) inputs L openings r (madeBy (loweredWords t) list (loadedTable t inputs) a) (end t lent w inputs s loads list a runs) (o .0) (o .1))))
+    ]
+  where
+    shown : ranOutcome (runAnswer (Graph t lent) (loadState (Graph t lent) inputs s) list a) ≡ outcome (loweredWords t) (end t lent w inputs s loads list a runs)
+    shown =
+        ap ranOutcome (answer-is t lent w inputs s loads list a runs)
+        ∙ ran-shown (loweredWords t) (end t lent w inputs s loads list a runs) (made t lent w inputs s loads list a runs) .1
 
-  -- WHERE A RUN ANSWERS COMPLETE the reading ends, and the run has left its words
-  pub complete-is-the-reading : (inputs lent : List ℕ) → lowerAnswer t (length lent) .number ≡ 0 → (s list : List ℕ) (a F : ℕ) → loadRefusal (Graph t lent) inputs s ≡ 0 → runRefusal (Graph t lent) (loadState (Graph t lent) inputs s) list ≡ 0
-      → runAnswer (Graph t lent) (loadState (Graph t lent) inputs s) list a ≡ Complete F
-      → (words : List ℕ) × (openings : List Opening) × Reads t inputs (ended words openings) × AsRead t words (runState (Graph t lent) (loadState (Graph t lent) inputs s) list a)
-  complete-is-the-reading inputs lent w s list a F loads runs e =
-      let c : outcome (loweredWords t) (end t lent w inputs s loads list a runs) .answer ≡ COMPLETE
-      = sym (ap (λ o. o .answer) (ran-shown (loweredWords t) (end t lent w inputs s loads list a runs) (made t lent w inputs s loads list a runs) .1))
-      ∙ ap (λ x. ranOutcome x .answer) (sym (answer-is t lent w inputs s loads list a runs) ∙ e) in
-      let x = complete-run-means-the-reading t checked inputs list a c in
-      (x .0, x .1, x .2, subst (AsRead t (x .0)) (sym (state-is t lent w inputs s loads list a runs)) (x .3))
+-- WHERE A RUN ANSWERS COMPLETE the reading ends, and the run has left its words
+pub complete-is-the-reading : (t inputs lent : List ℕ) → lowerAnswer t (length lent) .number ≡ 0 → (s list : List ℕ) (a F : ℕ) → loadRefusal (Graph t lent) inputs s ≡ 0 → runRefusal (Graph t lent) (loadState (Graph t lent) inputs s) list ≡ 0
+    → runAnswer (Graph t lent) (loadState (Graph t lent) inputs s) list a ≡ Complete F
+    → (words : List ℕ) × (openings : List Opening) × Reads t inputs (ended words openings) × AsRead t words (runState (Graph t lent) (loadState (Graph t lent) inputs s) list a)
+complete-is-the-reading t inputs lent w s list a F loads runs e =
+    let c : outcome (loweredWords t) (end t lent w inputs s loads list a runs) .answer ≡ COMPLETE
+    = sym (ap (λ o. o .answer) (ran-shown (loweredWords t) (end t lent w inputs s loads list a runs) (made t lent w inputs s loads list a runs) .1))
+    ∙ ap (λ x. ranOutcome x .answer) (sym (answer-is t lent w inputs s loads list a runs) ∙ e) in
+    let x = complete-run-means-the-reading t (lowered-is-checked t lent w) inputs list a c in
+    (x .0, x .1, x .2, subst (AsRead t (x .0)) (sym (state-is t lent w inputs s loads list a runs)) (x .3))

@@ -1,14 +1,14 @@
 -- Where an order on the lowered words has ended as the reading has: the state's words, and the run's answer there.
 --
---   AsRead                    the results hold the reading's words in order, every other wire and every record is zero
+--   AsRead                    the whole state: the results hold the reading's words in order, every other wire and every record is zero
 --   ended-as-read             so it is where the reading has ended
 --   answers-complete          and there the answer is COMPLETE
 --
 -- Assumes nothing.
-use mathlib.Core.Path.{_≡_, refl, sym, ap, ap₂, _∙_}
+use mathlib.Core.Path.{_≡_, refl, sym, ap, ap₂, _∙_, subst₂}
 use mathlib.Core.Logic.{_≢_}
 use mathlib.Core.Bool.{Bool, true, false, cond, not, _||_}
-use mathlib.Core.Option.{some}
+use mathlib.Core.Option.{none, some}
 use mathlib.Core.List.{List, [], _∷_, _++_, append-assoc}
 use Prim.Native.Nat.{ℕ, zero, suc, _+_, _≤_, _<_}
 use native.Mathlib.Omega.{arith}
@@ -22,6 +22,7 @@ use Rattle.graph.specs.Below.{everyFrom, every, times, times-one, times-within}
 use Rattle.graph.specs.Graph.{nodeCount, wireCount, resultCount, resultAt, results}
 use Rattle.graph.specs.Refusal.{graphRefusal}
 use Rattle.state.specs.State.{fullPlace, wordPlace, token, tokenAt, isEmpty, recordAt}
+use Rattle.state.specs.Legal.{stateLength}
 use Rattle.state.specs.Net.{netOf, fire}
 use Rattle.state.specs.Run.{isFull, isResult, resultsFull, othersEmpty, phasesZero, complete, COMPLETE, outcome}
 use Rattle.confluence.specs.Orders.{Rests}
@@ -40,6 +41,7 @@ use Rattle.faithful.specs.Table.{Table}
 use Rattle.faithful.specs.Tables.{tableOf, row-at, is-out, out-words}
 use Rattle.faithful.specs.Finish.{Finished}
 use Rattle.faithful.specs.Places.{layout, laid}
+use Rattle.faithful.specs.EndState.{endState, whole-state}
 
 -- ---- the words that the OUT rows name, in order
 
@@ -112,7 +114,9 @@ or-true false b h = h refl
 
 -- What the words of the end state are: `u` is the whole state, `words` are the reading's results.
 pub record AsRead (t words u : List ℕ) : Type 0 where
-  -- there is a word for each result wire, and it stands there
+  -- one equation for all of its words
+  pub whole : u ≡ endState (loweredWords t) words
+  -- so there is a word for each result wire, and it stands there
   pub one-each : length words ≡ resultCount (loweredWords t)
   pub results-hold : (k x : ℕ) → getElem? words k ≡ some x → tokenAt u (resultAt (loweredWords t) k) ≡ some x
   -- every other wire holds 0 0
@@ -151,23 +155,28 @@ module _ (t : List ℕ) (S : Structure t) (ok : graphRefusal (loweredWords t) �
       let b = in-range (those (isOut t) (size t)) (position ℕ-discrete q (those (isOut t) (size t))) q p in
       (position ℕ-discrete q (those (isOut t) (size t)), omega arith, result-at t (position ℕ-discrete q (those (isOut t) (size t))) q p, w .3)
 
-  pub ended-as-read : (env : Env) (u : List ℕ) → Finished tb (netOf g) (nodeCount g) (laid t S ok) env u → AsRead t (resultsFrom (size t) t env 0) u
+  pub ended-as-read : (env : Env) (u : List ℕ) → length u ≡ stateLength g → Finished tb (netOf g) (nodeCount g) (laid t S ok) env u → AsRead t (resultsFrom (size t) t env 0) u
   unfolding laid layout
-  ended-as-read env u F =
+  ended-as-read env u long F =
       record {
+        whole = whole-state g (resultsFrom (size t) t env 0) u long (results-counted t env) holds others (F .recs);
         one-each = results-counted t env;
-        results-hold = λ k x h. by k x h (result-row k (below k x h));
-        others-empty = λ w l n. F .others w l (λ r x h e. let q = row-result r x h in n (q .0) (q .1) (e ∙ sym (q .2)));
+        results-hold = λ k x h. holds-token u (resultAt g k) x (holds k x h);
+        others-empty = others;
         records-zero = F .recs;
       }
     where
+      others : (w : ℕ) → w < wireCount g → ((k : ℕ) → k < resultCount g → w ≢ resultAt g k) → Holds u w none
+      others w l n = F .others w l (λ r x h e. let q = row-result r x h in n (q .0) (q .1) (e ∙ sym (q .2)))
+
       below : (k x : ℕ) → getElem? (resultsFrom (size t) t env 0) k ≡ some x → k < resultCount g
       below k x h = let a = in-range (resultsFrom (size t) t env 0) k x h in let b = results-counted t env in omega arith
 
-      by : (k x : ℕ) → getElem? (resultsFrom (size t) t env 0) k ≡ some x → (q : ℕ) × (getElem? (outRows t) k ≡ some q) × (tb .row q ≡ out (word t q 1)) → tokenAt u (resultAt g k) ≡ some x
-      by k x h r =
-          let e : some (env (word t (r .0) 1)) ≡ some x = sym (result-words t env k (r .0) (r .1)) ∙ h in
-          ap (tokenAt u) (result-at t k (r .0) (r .1)) ∙ holds-token u (standsOn t (result (r .0))) (env (word t (r .0) 1)) (F .results (r .0) (word t (r .0) 1) (r .2)) ∙ e
+      holds : (k x : ℕ) → getElem? (resultsFrom (size t) t env 0) k ≡ some x → Holds u (resultAt g k) (some x)
+      holds k x h =
+          let r = result-row k (below k x h) in
+          let e : env (word t (r .0) 1) ≡ x = let q = result-words t env k (r .0) (r .1) in let p = h in cc in
+          subst₂ (λ (w z : ℕ). Holds u w (some z)) (sym (result-at t k (r .0) (r .1))) e (F .results (r .0) (word t (r .0) 1) (r .2))
 
   -- ---- the answer COMPLETE
 

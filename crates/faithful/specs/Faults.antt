@@ -3,7 +3,8 @@
 --   ZeroStepped               node i is a STREAM at rest with its three tokens, and its step is 0
 --   zero-step-stays           no firing changes that
 --   zero-step-lasts           so no list of firings does
---   answers-zero-step         and at rest, if the graph is not complete, the answer is ZERO STEP
+--   ZeroStepNamed             a node waits so, and the answer is ZERO STEP and names the lowest STREAM that does
+--   answers-zero-step         so it is at rest, if the graph is not complete
 --
 -- Assumes nothing.
 use mathlib.Core.Path.{_≡_, refl, sym, ap, ap₂, _∙_, subst}
@@ -25,7 +26,7 @@ use Rattle.graph.specs.Graph.{Node, nodeAt, nodeCount, wireCount, inputAt}
 use Rattle.graph.specs.Refusal.{graphRefusal}
 use Rattle.state.specs.State.{fullPlace, wordPlace, token, tokenAt, tokenOn, isEmpty, recordAt, stored}
 use Rattle.state.specs.Net.{Net, netOf, view, effectAt, stepAt, stores, fire}
-use Rattle.state.specs.Run.{isStream, complete, zeroStepAt, firstFrom, zeroStep, ZERO-STEP, outcome}
+use Rattle.state.specs.Run.{isStream, complete, zeroStepAt, firstFrom, zeroStep, ZERO-STEP, Outcome, outcome}
 use Rattle.confluence.specs.Orders.{Rests, fires-first, fires-end}
 use Rattle.confluence.specs.Wired.{Wired, effect-of, given-empty}
 use Rattle.confluence.specs.Update.{Touch, takes-it, gives-it, leaves-it, touch, still-after, own-after}
@@ -133,17 +134,28 @@ module _ (g : List ℕ) (ok : graphRefusal g ≡ 0) where
 
 -- ---- the answer
 
-first-found : (test : ℕ → Bool) (m from i : ℕ) → from ≤ i → i < from + m → test i ≡ true → firstFrom m from test < from + m
+-- the number found passes the test, if one below the bound does, and none lower passes it
+first-passes : (test : ℕ → Bool) (m from : ℕ) → firstFrom m from test < from + m → test (firstFrom m from test) ≡ true
 unfolding firstFrom
-first-found test zero from i a b h = absurd (omega arith)
-first-found test (suc m) from i a b h = go (test from) refl (λ l. first-found test m (from + 1) i l (omega arith) h)
+first-passes test zero from l = absurd (omega arith)
+first-passes test (suc m) from l = go (test from) refl l (λ k. first-passes test m (from + 1) k)
   where
-    go : (c : Bool) → test from ≡ c → (from + 1 ≤ i → firstFrom m (from + 1) test < from + 1 + m) → (elim c [ true ↦ from | false ↦ firstFrom m (from + 1) test ]) < from + suc m
-    go true e ih = omega arith
+    go : (c : Bool) → test from ≡ c → (elim c [ true ↦ from | false ↦ firstFrom m (from + 1) test ]) < from + suc m
+        → (firstFrom m (from + 1) test < from + 1 + m → test (firstFrom m (from + 1) test) ≡ true) → test (elim c [ true ↦ from | false ↦ firstFrom m (from + 1) test ]) ≡ true
+    go true e l ih = e
+    go false e l ih = ih (omega arith)
+
+first-lowest : (test : ℕ → Bool) (m from i : ℕ) → from ≤ i → test i ≡ true → firstFrom m from test ≤ i
+unfolding firstFrom
+first-lowest test zero from i a h = a
+first-lowest test (suc m) from i a h = go (test from) refl (λ l. first-lowest test m (from + 1) i l h)
+  where
+    go : (c : Bool) → test from ≡ c → (from + 1 ≤ i → firstFrom m (from + 1) test ≤ i) → (elim c [ true ↦ from | false ↦ firstFrom m (from + 1) test ]) ≤ i
+    go true e ih = a
     go false e ih =
         elim (ℕ-discrete from i) [
           | yes d ↦ (let z : test i ≡ false = ap test (sym d) ∙ e in let z : _≡_ {A = ℕ} 0 1 = cc in absurd (omega arith))
-          | no d ↦ (let r = ih (omega arith) in omega arith)
+          | no d ↦ ih (omega arith)
         ]
 
 pub zero-step-seen : (g s : List ℕ) (i : ℕ) → ZeroStepped g s i → zeroStepAt g s i ≡ true
@@ -158,8 +170,25 @@ zero-step-seen g s i Z =
     stream : isStream (nodeAt g i) ≡ true
     stream = ap isStream (Z .here) ∙ rw (Z .is-stream)
 
-pub answers-zero-step : (g s : List ℕ) (i : ℕ) → i < nodeCount g → ZeroStepped g s i → Rests (fire (netOf g)) s → complete g s ≡ false → outcome g s .answer ≡ ZERO-STEP
+-- Node i waits so, and o is ZERO STEP and names the lowest node that the run's rule finds: a STREAM in phase 0 that has its three tokens, and
+-- its step is 0.
+pub record ZeroStepNamed (g s : List ℕ) (i : ℕ) (o : Outcome) : Type 0 where
+  pub waits : ZeroStepped g s i
+  pub answer : o .answer ≡ ZERO-STEP
+  pub named : zeroStepAt g s (o .node) ≡ true
+  pub lowest : (j : ℕ) → zeroStepAt g s j ≡ true → o .node ≤ j
+  pub at-most : o .node ≤ i
+
+pub answers-zero-step : (g s : List ℕ) (i : ℕ) → i < nodeCount g → ZeroStepped g s i → Rests (fire (netOf g)) s → complete g s ≡ false → ZeroStepNamed g s i (outcome g s)
 unfolding outcome
 answers-zero-step g s i l Z h c =
-    let f = first-found (zeroStepAt g s) (nodeCount g) 0 i (omega arith) (omega arith) (zero-step-seen g s i Z) in
-    rw (none-ready-if-rests g s h, c, lt-ltb (zeroStep g s) (nodeCount g) (let e : zeroStep g s < 0 + nodeCount g = f in omega arith))
+    let low : (j : ℕ) → zeroStepAt g s j ≡ true → zeroStep g s ≤ j = λ j e. first-lowest (zeroStepAt g s) (nodeCount g) 0 j (omega arith) e in
+    let f : zeroStep g s ≤ i = low i (zero-step-seen g s i Z) in
+    subst (ZeroStepNamed g s i) (sym (rw (none-ready-if-rests g s h, c, lt-ltb (zeroStep g s) (nodeCount g) (omega arith))))
+    (record {
+      waits = Z;
+      answer = refl;
+      named = first-passes (zeroStepAt g s) (nodeCount g) 0 (let z : zeroStep g s < 0 + nodeCount g = omega arith in z);
+      lowest = low;
+      at-most = f;
+    })

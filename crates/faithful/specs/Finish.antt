@@ -12,7 +12,7 @@ use mathlib.Core.Option.{Option, none, some}
 use mathlib.Core.List.{List, _∷_}
 use Prim.Native.Nat.{ℕ, zero, suc, _+_, _*_, _≤_, _<_}
 use native.Mathlib.Omega.{arith}
-use native.Mathlib.Decide.{decLt, decLe}
+use native.Mathlib.Decide.{decLt}
 use lib.ListN.{length}
 use Rattle.step.specs.Kinds.{Input, in0, in1, in2}
 use Rattle.step.specs.Firing.{View, Effect, perform}
@@ -33,9 +33,10 @@ use Rattle.uses.specs.Layout.{Layout, Made, Tree, Shown, wireIf, use-in-tree, d
 use Rattle.uses.specs.Flat.{Holds, Rep, view-is}
 use Rattle.faithful.specs.Table.{Table, val, IsFor, wireOf, since, slot, slotWire, src, Real, programOf, opProgram, streamProgram, guardProgram, resultSlot, plan}
 use Rattle.faithful.specs.Good.{Good, Source, fromStart, fromOp, fromFor, fromArg, fromNext, fromCopy, source, When, byOp, byFor, byEnd, byOut, when}
-use Rattle.faithful.specs.Gamma.{Env, Inside, scope, held, Gamma}
+use Rattle.faithful.specs.Gamma.{Env, Gamma}
 use Rattle.faithful.specs.Rows.{src-cases}
 use Rattle.faithful.specs.Begin.{Begun}
+use Rattle.faithful.specs.Passed.{rest-outside}
 
 -- ---- where the reading has ended
 module _ (tb : Table) (g : Good tb) (env : Env) (t : State) (G : Gamma tb (tb .size) env t) where
@@ -91,30 +92,10 @@ module _ (tb : Table) (g : Good tb) (env : Env) (t : State) (G : Gamma tb (tb .s
       go (out x) q k = inl (r, x, refl, q)
 
   end-rec : (n : Role) → Real tb n → t .own n ≡ rest
-  end-rec n rl = go n rl
-    where
-      closed : (L : ℕ) → IsFor tb L → Inside tb L (tb .size) → ⊥
-      closed L f l = let a = g .for-size L f in let l1 = l .1 in omega arith
-
-      always : (n : Role) → Real tb n → held tb n env ≡ rest → t .own n ≡ rest
-      always n rl h =
-          elim (decLe (tb .first (scope tb n)) (tb .size)) [
-            | yes x ↦ elim (decLe (tb .size) (tb .last (scope tb n))) [ yes y ↦ G .records-in n rl (x, y) ∙ h | no y ↦ G .records-out n rl (λ l. y (l .1)) ]
-            | no x ↦ G .records-out n rl (λ l. x (l .0))
-          ]
-
-      go : (n : Role) → Real tb n → t .own n ≡ rest
-      go (opNode r) rl = always (opNode r) rl refl
-      go (stream L) rl = G .records-out (stream L) rl (closed L rl)
-      go (gate L) rl = G .records-out (gate L) rl (closed L rl)
-      go (guard L) rl = always (guard L) rl refl
-      go (copySplit L v) rl = always (copySplit L v) rl refl
-      go (copyInvariant L v) rl = G .records-out (copyInvariant L v) rl (closed L (rl .0))
-      go (carry a) rl = G .records-out (carry a) rl (closed (tb .loop a) (g .arg-for a (rl .0) (rl .1)))
-      go (argSplit a) rl = always (argSplit a) rl refl
+  end-rec n rl = rest-outside tb g (tb .size) env t G n rl (λ L f _ i. let a = g .for-size L f in let b = i .1 in omega arith)
 
 -- a node at rest with nothing on its inputs is not ready
-quiet-run : (tb : Table) (n : Role) (v : View) → v .own ≡ rest → v .word0 ≡ none → v .word1 ≡ none → v .word2 ≡ none → perform (programOf tb n (v .own)) v ≡ none
+pub quiet-run : (tb : Table) (n : Role) (v : View) → v .own ≡ rest → v .word0 ≡ none → v .word1 ≡ none → v .word2 ≡ none → perform (programOf tb n (v .own)) v ≡ none
 quiet-run tb n v r a b c = ap (λ (z : Record). perform (programOf tb n z) v) r ∙ go n
   where
     ops : (d : Row) → perform (opProgram d rest) v ≡ none
@@ -173,7 +154,7 @@ drain-waits zero v h = rw h
 drain-waits (suc p) v h = refl
 
 module _ (net : Net) {P : Type 0} (pw : P → ℕ) where
-  fork-quiet : {x : ℕ} {ps : List P} (s : Spread net pw x ps) (B : Tokens) → Once (x ∷ below net pw s)
+  pub fork-quiet : {x : ℕ} {ps : List P} (s : Spread net pw x ps) (B : Tokens) → Once (x ∷ below net pw s)
       → ((z : ℕ) → Among z (x ∷ below net pw s) → (OneOf net pw z ps → ⊥) → B .wt z ≡ none) → (i : ℕ) → Among i (nodes net pw s) → net .node i (view2 net B i) ≡ none
   fork-quiet {x = x} (drained d h) B o e i (inl c) =
       let z : inTok B (net .input d in0) ≡ none = ap (inTok B) (h .wire0) ∙ e x (inl refl) (λ k. k) in

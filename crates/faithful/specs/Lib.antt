@@ -24,13 +24,17 @@ pub mod Endless
 pub mod Sources
 pub mod Legs
 pub mod Begin
+pub mod Passed
 pub mod Finish
 pub mod Places
 pub mod Loading
 -- Orders on the lowered words.
 pub mod Order
+pub mod EndState
 pub mod Endings
 pub mod Faults
 pub mod Waiting
+pub mod Silent
 pub mod Statements
 pub mod NotIdle
+pub mod NotSo

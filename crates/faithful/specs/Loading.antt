@@ -77,7 +77,7 @@ module _ (t : List ℕ) (S : Structure t) (inputs : List ℕ) where
   start-at k v h = number-is t S (start v) k (elem-left (each (λ r. start r ∷ []) (startRows t)) (each (roleOutputs t) (roles t)) k (start v) (starts-at (startRows t) k v h))
 
   -- a start's place among the INPUT and CONST rows
-  start-of : (v : ℕ) → Made (plan tb) (start v) → (getElem? (startRows t) (wireNumber t (start v)) ≡ some v) × (wireNumber t (start v) < startTotal t)
+  pub start-of : (v : ℕ) → Made (plan tb) (start v) → (getElem? (startRows t) (wireNumber t (start v)) ≡ some v) × (wireNumber t (start v) < startTotal t)
   unfolding startRows startTotal
   start-of v m =
       let l = to-made t S (start v) m in

@@ -3,8 +3,11 @@
 -- keeps no word of a carried-in value, so the next opening cannot meet it.
 --
 --   lowered-table-means-its-reading   every order rests after the same number of firings, with the reading's words and nothing else
+--   the-end-state                     so the end state, all its words, is `endState`
 --   every-run-is-complete             so every run with that allowance, whatever its list, answers COMPLETE in that state
---   zero-step-is-never-complete       where the reading meets a zero step, every order that rests answers ZERO STEP
+--   zero-step-is-named                where the reading meets a zero step, in every order that rests the STREAM of that loop waits with it; ZERO STEP is
+--                                     answered with the lowest node that waits so, which is of no loop that the reading has left
+--   zero-step-is-never-complete       so every order that rests answers ZERO STEP
 --   no-run-completes-a-fault          so no run, whatever its list and allowance, answers COMPLETE there
 --   rest-bounds-the-reading           where an order rests after F firings, the reading comes to an outcome, within a number of steps that F fixes
 --   endless-reading-never-rests       so where the reading comes to no outcome, no order rests
@@ -43,29 +46,33 @@ use Rattle.graph.specs.Refusal.{graphRefusal}
 use Rattle.graph.specs.Accepted.{node-in-range}
 use Rattle.state.specs.Load.{loaded}
 use Rattle.state.specs.Net.{netOf}
+use Rattle.state.specs.Run
 use Rattle.state.specs.Run.{COMPLETE, SPENT, STRANDED, ZERO-STEP, outcome}
 use Rattle.confluence.specs.Statements.{Fires, AtRest, putOnWire, every-order-rests-alike, runOf, madeBy, enough-is-not-spent, run-is-an-order}
 use Rattle.table.specs.Rows.{kindOf, size, FOR}
+use Rattle.table.specs.Scan.{bodyOf, readStack, reads}
 use Rattle.table.specs.Check.{tableRefusal, answer}
 use Rattle.structure.specs.Structure.{Structure, passing-table-has-structure}
 use Rattle.reading.specs.Reading.{Opening, Outcome, ended, zeroStep, begin, readFrom, read, resultsFrom}
 use Rattle.reading.specs.Outcome.{Reads}
-use Rattle.lowered.specs.Roles.{stream, gate, output}
-use Rattle.lowered.specs.Lower.{wireNumber, loweredWords}
+use Rattle.lowered.specs.Gathered.{position}
+use Rattle.lowered.specs.Roles.{stream, gate, output, sameRole}
+use Rattle.lowered.specs.Lower.{roles, wireNumber, loweredWords}
 use Rattle.lowered.specs.Room.{hasRoom, fitsInto, refusedBy, checkAnswer, lowerRefusal}
 use Rattle.laid.specs.Answers.{number-0-is-no-refusal, checked-table-lowers}
 use Rattle.faithful.specs.Conditions.{turnsOf, turns-reverse, rawOf, gatedOf}
-use Rattle.faithful.specs.Table.{IsFor}
-use Rattle.faithful.specs.Tables.{tableOf, for-row}
+use Rattle.faithful.specs.Tables.{tableOf, for-row, for-kind}
 use Rattle.faithful.specs.Sound.{passing-is-good}
 use Rattle.faithful.specs.Following.{Ended, Faulted, followed}
 use Rattle.faithful.specs.Endless.{Far, outcome-or-far, enough-steps}
 use Rattle.faithful.specs.Finish.{finished, rests}
-use Rattle.faithful.specs.Places.{laid, num}
+use Rattle.faithful.specs.Places.{laid}
 use Rattle.faithful.specs.Order.{first-state, follows-first, order-shows}
+use Rattle.faithful.specs.EndState.{endState}
 use Rattle.faithful.specs.Endings.{AsRead, ended-as-read, answers-complete}
-use Rattle.faithful.specs.Faults.{ZeroStepped, zero-step-lasts, answers-zero-step}
-use Rattle.faithful.specs.Waiting.{waiting, not-complete}
+use Rattle.faithful.specs.Faults.{zero-step-lasts, ZeroStepNamed, answers-zero-step}
+use Rattle.faithful.specs.Waiting.{not-complete}
+use Rattle.faithful.specs.Silent.{hushed-run, waits-late, AtFault, at-fault}
 
 abbrev pub loadedTable : List ℕ → List ℕ → List ℕ
 loadedTable t inputs = loaded (loweredWords t) inputs
@@ -76,6 +83,10 @@ rawWire t L = wireNumber t (output (stream L) out1)
 
 abbrev pub gatedWire : List ℕ → ℕ → ℕ
 gatedWire t L = wireNumber t (output (gate L) out1)
+
+-- the number of the node that is that loop's STREAM
+abbrev pub streamNode : List ℕ → ℕ → ℕ
+streamNode t L = position sameRole (stream L) (roles t)
 
 -- What an order has put on the conditions of each loop: for its openings in turn, N ones and a zero on the raw one, and N - 1 ones and a zero, or
 -- nothing for N = 0, on the gated one.
@@ -101,6 +112,15 @@ pub record Faithful (t inputs words : List ℕ) (openings : List Opening) (F : �
   pub gated-so-far : (L : ℕ) → kindOf t L ≡ FOR → (rest : List ℕ) × (putOnWire (loweredWords t) order (loadedTable t inputs) (gatedWire t L) ++ rest ≡ gatedOf (turnsOf L openings))
   -- and if it rests, it ends as the reading does
   pub ends : AtRest (loweredWords t) u → EndsAsRead t inputs words openings F order u
+
+-- What an answer o where an order rests in u has to do with the zero step that the reading met at FOR row L.
+pub record FaultNamed (t : List ℕ) (L : ℕ) (u : List ℕ) (o : Run.Outcome) : Type 0 where
+  -- that loop's STREAM waits with a zero step; o is ZERO STEP and names a STREAM that waits so, the lowest that does
+  pub met : ZeroStepNamed (loweredWords t) u (streamNode t L) o
+  -- it is of no loop that the reading has left: not below the STREAM of any loop of the outermost body at row L or above
+  pub not-behind : (M : ℕ) → kindOf t M ≡ FOR → bodyOf t M ≡ size t → M ≤ L → streamNode t M ≤ o .node
+  -- so where L stands in no other loop, its own STREAM is named
+  pub own : bodyOf t L ≡ size t → o .node ≡ streamNode t L
 
 -- ---- from the check's answer
 
@@ -157,7 +177,7 @@ module _ (t : List ℕ) (checked : checkAnswer t .number ≡ 0) where
             x .state,
             x .fires,
             rests tb N n (laid t S ok) G (e .env) (x .tokens) (e .there) (x .shown) (e .follows .gamma) (x .state) (x .flat),
-            subst (λ (z : List ℕ). AsRead t z (x .state)) (sym kw) (ended-as-read t S ok (e .env) (x .state) f),
+            subst (λ (z : List ℕ). AsRead t z (x .state)) (sym kw) (ended-as-read t S ok (e .env) (x .state) (x .flat .long) f),
             record {
               raw = λ L kL.
                   let m = for-row t S L kL in
@@ -197,6 +217,11 @@ module _ (t : List ℕ) (checked : checkAnswer t .number ≡ 0) where
             },
       )
 
+  -- So the whole end state is one list of words: for each wire 1 and the word of its result, or 0 0; then four zeros for each node.
+  pub the-end-state : (inputs words : List ℕ) (openings : List Opening) → Reads t inputs (ended words openings)
+      → (order u : List ℕ) → Fires (loweredWords t) order (loadedTable t inputs) u → AtRest (loweredWords t) u → u ≡ endState (loweredWords t) words
+  the-end-state inputs words openings r order u q h = lowered-table-means-its-reading inputs words openings r .1 order u q .ends h .state .whole
+
   -- ---- runs
 
   -- Any run with an allowance of F, whatever its list of nodes, answers COMPLETE, has made F firings and ends as the reading does.
@@ -215,34 +240,43 @@ module _ (t : List ℕ) (checked : checkAnswer t .number ≡ 0) where
 
   -- ---- a zero step
 
-  -- an order that follows the reading up to the FOR row leaves its STREAM waiting with a zero step
-  faulted-order : (inputs : List ℕ) (L : ℕ) (openings : List Opening) → Reads t inputs (zeroStep L openings)
-      → (order : List ℕ) × (u : List ℕ) × Fires (loweredWords t) order (loadedTable t inputs) u × ZeroStepped (loweredWords t) u (num t S (stream L)) × IsFor (tableOf t) L
+  -- an order that follows the reading up to the FOR row
+  faulted-order : (inputs : List ℕ) (L : ℕ) (openings : List Opening) → Reads t inputs (zeroStep L openings) → AtFault t S ok inputs L
   faulted-order inputs L openings r = go (reading-of inputs (zeroStep L openings) r)
     where
-      go : Ended t S (first-state t S ok inputs) (zeroStep L openings) ⊎ Faulted t S (first-state t S ok inputs) (zeroStep L openings)
-          → (order : List ℕ) × (u : List ℕ) × Fires (loweredWords t) order (loadedTable t inputs) u × ZeroStepped (loweredWords t) u (num t S (stream L)) × IsFor (tableOf t) L
+      go : Ended t S (first-state t S ok inputs) (zeroStep L openings) ⊎ Faulted t S (first-state t S ok inputs) (zeroStep L openings) → AtFault t S ok inputs L
       go (inl e) = let k = e .outcome in let z : _≡_ {A = ℕ} 0 1 = cc in absurd (omega arith)
-      go (inr e) =
-          let k = e .outcome in
-          let d : L ≡ e .loop = cc in
-          let x = order-shows t S ok inputs (e .path) (e .there) (e .steps) .0 in (
-            x .order,
-            x .state,
-            x .fires,
-            subst (λ (z : ℕ). ZeroStepped (loweredWords t) (x .state) (num t S (stream z))) (sym d)
-                (waiting t S ok inputs (e .loop) (e .start) (e .step) (e .bound) (e .change) (e .compare) (e .row) (e .env) (e .there) (e .follows .gamma) (e .zero-step) x),
-            subst (IsFor (tableOf t)) (sym d) (e .start, e .step, e .bound, e .change, e .compare, e .row),
-          )
+      go (inr e) = let k = e .outcome in let d : e .loop ≡ L = cc in subst (AtFault t S ok inputs) d (at-fault t S ok inputs (zeroStep L openings) e)
 
-  -- Every order that rests answers ZERO STEP: the STREAM of some loop in phase 0 has three tokens, and its step is 0.
+  -- In every order that rests the STREAM of that loop waits with the zero step, and ZERO STEP is answered with the lowest node that waits so.
+  pub zero-step-is-named : (inputs : List ℕ) (L : ℕ) (openings : List Opening) → Reads t inputs (zeroStep L openings)
+      → (order u : List ℕ) → Fires (loweredWords t) order (loadedTable t inputs) u → AtRest (loweredWords t) u → FaultNamed t L u (outcome (loweredWords t) u)
+  unfolding bodyOf readStack reads
+  zero-step-is-named inputs L openings r order u q h =
+      record { met = met; not-behind = not-behind; own = λ b. let low = not-behind L (for-kind t S L (f .is-for) .1) b (omega arith) in let high = met .at-most in omega arith }
+    where
+      f : AtFault t S ok inputs L
+      f = faulted-order inputs L openings r
+
+      -- the rest of an order that follows the reading there
+      later : (more : List ℕ) × Fires (loweredWords t) more (f .state) u
+      later = let a = every-order-rests-alike (loweredWords t) ok order (loadedTable t inputs) u q h (f .order) (f .state) (f .fires) .extends in (a .0, a .1)
+
+      met : ZeroStepNamed (loweredWords t) u (streamNode t L) (outcome (loweredWords t) u)
+      met =
+          let Z = zero-step-lasts (loweredWords t) ok (later .0) (f .state) u (streamNode t L) (f .waits) (later .1) in
+          answers-zero-step (loweredWords t) u (streamNode t L) (node-in-range (loweredWords t) (streamNode t L) (Z .node) (Z .here)) Z h (not-complete t S ok u L (f .is-for) Z)
+
+      not-behind : (M : ℕ) → kindOf t M ≡ FOR → bodyOf t M ≡ size t → M ≤ L → streamNode t M ≤ outcome (loweredWords t) u .node
+      not-behind M k b come =
+          let here = for-row t S M k in
+          let outside : reads t M ≡ size t = rw k b in
+          let x = hushed-run t S ok M here outside (later .0) (f .state) u (f .tokens) (f .flat) (f .hushed M here outside come) (later .1) in
+          waits-late t S ok M here outside u (x .0) (x .1) (x .2) (outcome (loweredWords t) u .node) (met .named)
+
   pub zero-step-is-never-complete : (inputs : List ℕ) (L : ℕ) (openings : List Opening) → Reads t inputs (zeroStep L openings)
       → (order u : List ℕ) → Fires (loweredWords t) order (loadedTable t inputs) u → AtRest (loweredWords t) u → outcome (loweredWords t) u .answer ≡ ZERO-STEP
-  zero-step-is-never-complete inputs L openings r order u q h =
-      let f = faulted-order inputs L openings r in
-      let a = every-order-rests-alike (loweredWords t) ok order (loadedTable t inputs) u q h (f .0) (f .1) (f .2) in
-      let Z = zero-step-lasts (loweredWords t) ok (a .extends .0) (f .1) u (num t S (stream L)) (f .3) (a .extends .1) in
-      answers-zero-step (loweredWords t) u (num t S (stream L)) (node-in-range (loweredWords t) (num t S (stream L)) (Z .node) (Z .here)) Z h (not-complete t S ok u L (f .4) Z)
+  zero-step-is-never-complete inputs L openings r order u q h = zero-step-is-named inputs L openings r order u q h .met .answer
 
   -- So no run answers COMPLETE.
   pub no-run-completes-a-fault : (inputs : List ℕ) (L : ℕ) (openings : List Opening) → Reads t inputs (zeroStep L openings)

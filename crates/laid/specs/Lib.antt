@@ -12,7 +12,9 @@ pub mod Sorted
 pub mod Numbered
 pub mod Accepts
 pub mod Answers
+pub mod Limits
 pub mod Bases
+pub mod Rowwise
 pub mod Counts
 pub mod Wired
 pub mod Sourced

@@ -1,7 +1,7 @@
 -- The nodes and wires that lowering lists: each once, and which they are.
 --
 --   Real                              a node that the table has
---   listed-role-is-real, real-role-is-listed, roles-once
+--   listed-role-is-real, real-role-is-listed, roles-once, role-row
 --   Made                              a wire that the table has
 --   listed-wire-is-made, made-wire-is-listed, wires-once
 --
@@ -160,10 +160,13 @@ module _ (t : List ℕ) where
       go false false true = (pair, ((λ h. h), tt))
       go false false false = tt
 
+  pub role-row : (r : ℕ) (n : Role) → Among n (rowRoles t r) → roleRow n ≡ r
+  role-row r n h = row-from r n h .0
+
   -- ---- all rows
   pub roles-once : Once (roles t)
   unfolding roles
-  roles-once = gathered-once (rowRoles t) roleRow (λ r n h. row-from r n h .0) row-once (size t)
+  roles-once = gathered-once (rowRoles t) roleRow role-row row-once (size t)
 
   pub listed-role-is-real : (n : Role) → Among n (roles t) → Real n
   unfolding roles
