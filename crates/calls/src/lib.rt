@@ -147,7 +147,7 @@ fn call_lower(table: &[u32], graph: &mut [u32], out: &mut [u8]) -> usize
     fill(graph);
     let lowered = lowering::lower(table, graph);
     let a = say_row(lowered.number, lowered.row, out);
-    let b = text::put_next(out, a, lowered.length as u64);
+    let b = text::put_next(out, a, lowered.written as u64);
     say_words(out, b, graph)
 }
 

@@ -308,7 +308,7 @@ fn lower(
     if lowered.number != 0 {
         return refuse(job.err, path, &text[..letters], table, lowered.number);
     }
-    let n = lowered.length;
+    let n = lowered.written;
     if n <= graph.len() {
         return on_graph(job, inputs, line, table, &graph[..n], text);
     }

@@ -8,7 +8,7 @@ use mathlib.Core.List.{List}
 use lib.Dec.{eqb, leb}
 use Rattle.table.specs.Check.{tableRefusal}
 use Rattle.lowered.specs.Lower.{nodeTotal, wireTotal, startTotal, resultTotal}
-use Rattle.lowered.specs.Room.{hasRoom}
+use Rattle.lowered.specs.Room.{inLimits}
 
 pub record Counts : Type 0 where
   pub nodes : ℕ
@@ -30,6 +30,6 @@ unfoldable pub inLimits : Counts → Bool
 inLimits c = leb (c .nodes) 4096 && (leb (c .wires) 8192 && (leb (c .starts) 512 && leb (c .results) 512))
 
 -- THERE IS ROOM EXACTLY IF THE COUNTS ARE IN THEIR LIMITS
-pub room-by-counts : (t : List ℕ) → hasRoom t ≡ inLimits (counts (nodeTotal t) (wireTotal t) (startTotal t) (resultTotal t))
-unfolding hasRoom inLimits
+pub room-by-counts : (t : List ℕ) → inLimits t ≡ inLimits (counts (nodeTotal t) (wireTotal t) (startTotal t) (resultTotal t))
+unfolding inLimits inLimits
 room-by-counts t = refl

@@ -49,12 +49,12 @@ use Rattle.demands.specs.Rehearsal.{Graph, graph-is-lowered, lowered-is-
 
 pub record Called (t lent inputs s list : List ℕ) (a : ℕ) (q : Ran) (end : List ℕ) : Type 0 where
   pub row : ℕ
-  pub length : ℕ
+  pub written : ℕ
   pub graph : List ℕ
   pub loaded : List ℕ
-  pub lowers : LowerAnswer t lent 0 row length graph
-  pub loads : LoadAnswer (take length graph) inputs s 0 loaded
-  pub runs : RunAnswer (take length graph) loaded list a q end
+  pub lowers : LowerAnswer t lent 0 row written graph
+  pub loads : LoadAnswer (take written graph) inputs s 0 loaded
+  pub runs : RunAnswer (take written graph) loaded list a q end
   pub not-refused : ranNumber q ≡ 0
 
 module _ (t lent inputs s list : List ℕ) (a : ℕ) where
@@ -64,7 +64,7 @@ module _ (t lent inputs s list : List ℕ) (a : ℕ) where
   calls-go-through w wt wi loads below =
       record {
         row = lowerAnswer t (length lent) .row;
-        length = lowerAnswer t (length lent) .length;
+        written = lowerAnswer t (length lent) .written;
         graph = lentAfter t lent;
         loaded = loadState (Graph t lent) inputs s;
         lowers = record { answer = rw w; lent-words = refl };
@@ -77,8 +77,8 @@ module _ (t lent inputs s list : List ℕ) (a : ℕ) where
     written-by : lowerAnswer t (length lent) .number ≡ 0
     written-by = sym (ap (λ x. x .number) (c .lowers .answer))
 
-    graph-is : take (c .length) (c .graph) ≡ Graph t lent
-    graph-is = ap₂ (λ (n : ℕ) (l : List ℕ). take n l) (ap (λ x. x .length) (c .lowers .answer)) (c .lowers .lent-words)
+    graph-is : take (c .written) (c .graph) ≡ Graph t lent
+    graph-is = ap₂ (λ (n : ℕ) (l : List ℕ). take n l) (ap (λ x. x .written) (c .lowers .answer)) (c .lowers .lent-words)
 
     load-passes : loadRefusal (Graph t lent) inputs s ≡ 0
     load-passes = sym (c .loads .number ∙ ap (λ (g : List ℕ). loadRefusal g inputs s) graph-is)

@@ -46,7 +46,7 @@ use Rattle.faithful.specs.Statements.{loadedTable, ConditionsTold, FaultNamed, 
 
 -- the words that `lower` has written
 abbrev pub Graph : List ℕ → List ℕ → List ℕ
-Graph t lent = take (lowerAnswer t (length lent) .length) (lentAfter t lent)
+Graph t lent = take (lowerAnswer t (length lent) .written) (lentAfter t lent)
 
 take-all : (xs ys : List ℕ) → take (length xs) (xs ++ ys) ≡ xs
 take-all [] ys = refl
@@ -58,7 +58,7 @@ module _ (t lent : List ℕ) (written : lowerAnswer t (length lent) .number ≡ 
   unfolding lowerAnswer
   no-refusal = written
 
-  length-is : lowerAnswer t (length lent) .length ≡ length (loweredWords t)
+  length-is : lowerAnswer t (length lent) .written ≡ length (loweredWords t)
   unfolding lowerAnswer
   length-is = ap (λ (b : Bool). cond b (length (loweredWords t)) 0) (eq-eqb (lowerRefusal t (length lent) .number) 0 no-refusal)
 

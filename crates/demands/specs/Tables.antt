@@ -29,7 +29,7 @@ one-check t n r m q a b = (ap (λ x. x .number) (a ∙ sym b), ap (λ x. x .row)
 
 pub one-lower : (t lent : List ℕ) (n r l m q k : ℕ) (x y : List ℕ) → LowerAnswer t lent n r l x → LowerAnswer t lent m q k y → (n ≡ m) × (r ≡ q) × (l ≡ k) × (x ≡ y)
 one-lower t lent n r l m q k x y a b =
-    let e = a .answer ∙ sym (b .answer) in (ap (λ z. z .number) e, ap (λ z. z .row) e, ap (λ z. z .length) e, a .lent-words ∙ sym (b .lent-words))
+    let e = a .answer ∙ sym (b .answer) in (ap (λ z. z .number) e, ap (λ z. z .row) e, ap (λ z. z .written) e, a .lent-words ∙ sym (b .lent-words))
 
 module _ (t lent : List ℕ) (n r l : ℕ) (x : List ℕ) (a : LowerAnswer t lent n r l x) where
   -- number and row are the refusal's
@@ -66,4 +66,4 @@ module _ (t lent : List ℕ) (n r l : ℕ) (x : List ℕ) (a : LowerAnswer t len
 
     pub written-graph-passes : graphRefusal (take l x) ≡ 0
     written-graph-passes =
-        ap₂ (λ (i : ℕ) (w : List ℕ). graphRefusal (take i w)) (ap (λ z. z .length) (a .answer)) (a .lent-words) ∙ graph-is-accepted t lent written
+        ap₂ (λ (i : ℕ) (w : List ℕ). graphRefusal (take i w)) (ap (λ z. z .written) (a .answer)) (a .lent-words) ∙ graph-is-accepted t lent written

@@ -24,7 +24,7 @@ use Rattle.step.specs.Machines.{rest, holding}
 use Rattle.step.specs.declared.Record.{Record}
 use Rattle.table.specs.Bodies.{Row, for, arg, next}
 use Rattle.lowered.specs.Roles.{Role, stream, gate, guard, copySplit, copyInvariant, carry, argSplit, output, Use, into}
-use Rattle.uses.specs.Machine.{State, giveBy, takeBy, nextBy, put, drop, listed, given, taken, Ready}
+use Rattle.uses.specs.Machine.{State, giveBy, takeBy, nextBy, put, unlessTaken, listed, given, taken, Ready}
 use Rattle.faithful.specs.Table.{Table, val, inner, absent, IsFor, wireOf, since, slot, Real, programOf, plan}
 use Rattle.faithful.specs.Members.{inLoop}
 use Rattle.faithful.specs.Good.{Used, Good}
@@ -122,13 +122,13 @@ module _ (tb : Table) (g : Good tb) (L s t b u c : ℕ) (q : tb .row L ≡ for s
   module _ (from : From) (to : To) (e1 e2 e3 : Effects) where
     -- what the stages leave on a link to output o of m, whose other end is taken at them or not
     abbrev pub flow1 : Role → Output → Bool → Option ℕ
-    flow1 m o t1 = put (giveBy (e1 m) o) (drop t1 none)
+    flow1 m o t1 = put (giveBy (e1 m) o) (unlessTaken t1 none)
 
     abbrev pub flow2 : Role → Output → Bool → Bool → Option ℕ
-    flow2 m o t1 t2 = put (giveBy (e2 m) o) (drop t2 (flow1 m o t1))
+    flow2 m o t1 t2 = put (giveBy (e2 m) o) (unlessTaken t2 (flow1 m o t1))
 
     abbrev pub flow3 : Role → Output → Bool → Bool → Bool → Option ℕ
-    flow3 m o t1 t2 t3 = put (giveBy (e3 m) o) (drop t3 (flow2 m o t1 t2))
+    flow3 m o t1 t2 t3 = put (giveBy (e3 m) o) (unlessTaken t3 (flow2 m o t1 t2))
 
     -- what stands at an input before each stage; y where nothing is known
     abbrev pub look1 : Port → Option ℕ → Option ℕ
@@ -138,7 +138,7 @@ module _ (tb : Table) (g : Good tb) (L s t b u c : ℕ) (q : tb .row L ≡ for s
 
     abbrev pub look2 : Port → Bool → Option ℕ → Option ℕ
     look2 (link m o) took y = flow1 m o took
-    look2 (waits at v) took y = drop took (wordAt from at v)
+    look2 (waits at v) took y = unlessTaken took (wordAt from at v)
     look2 nothing took y = y
 
     abbrev pub look3 : Port → Bool → Bool → Option ℕ → Option ℕ
@@ -336,11 +336,11 @@ module _ (tb : Table) (g : Good tb) (L s t b u c : ℕ) (q : tb .row L ≡ for s
             ((λ i. serves from to e1 e2 e3 (port tb s t b n k) (takes-yes tb g L isfor p n k e h e1 i) (takes-yes tb g L isfor p n k e h e2 i) (takes-yes tb g L isfor p n k e h e3 i)) ∙ serves-at n h k)
         go (takenByNone a x y) = elsewhere (neither a x) y
 
-    after1 : (p : Use) (v B d : ℕ) → slot tb p ≡ val v B d → T1 .tok p ≡ drop (took e1 p) (σ .tok p)
-    after1 p v B d r = tokv tb g L isfor e1 σ p v B d r ∙ ap (λ (x : Option ℕ). put x (drop (took e1 p) (σ .tok p))) (on-first p v B d r)
+    after1 : (p : Use) (v B d : ℕ) → slot tb p ≡ val v B d → T1 .tok p ≡ unlessTaken (took e1 p) (σ .tok p)
+    after1 p v B d r = tokv tb g L isfor e1 σ p v B d r ∙ ap (λ (x : Option ℕ). put x (unlessTaken (took e1 p) (σ .tok p))) (on-first p v B d r)
 
-    after3 : (p : Use) (v B d : ℕ) → slot tb p ≡ val v B d → T3 .tok p ≡ put (gave e3 v B) (drop (took e3 p) (put (gave e2 v B) (drop (took e2 p) (T1 .tok p))))
-    after3 p v B d r = tokv tb g L isfor e3 T2 p v B d r ∙ ap (λ (x : Option ℕ). put (gave e3 v B) (drop (took e3 p) x)) (tokv tb g L isfor e2 T1 p v B d r)
+    after3 : (p : Use) (v B d : ℕ) → slot tb p ≡ val v B d → T3 .tok p ≡ put (gave e3 v B) (unlessTaken (took e3 p) (put (gave e2 v B) (unlessTaken (took e2 p) (T1 .tok p))))
+    after3 p v B d r = tokv tb g L isfor e3 T2 p v B d r ∙ ap (λ (x : Option ℕ). put (gave e3 v B) (unlessTaken (took e3 p) x)) (tokv tb g L isfor e2 T1 p v B d r)
 
     not-taken-late : (p : Use) (v B d : ℕ) → slot tb p ≡ val v B d → took e3 p ≡ false
     not-taken-late p v B d r = elim (waiting p v B d r) [ until at e y k ↦ not-late from at (took e1 p) (took e2 p) (took e3 p) k | elsewhere n y ↦ y e3 ]
@@ -360,16 +360,16 @@ module _ (tb : Table) (g : Good tb) (L s t b u c : ℕ) (q : tb .row L ≡ for s
             let le : tb .last B ≡ tb .last L = ap (tb .last) e in
             H .values p v B d r .off (λ l. let l3 : tb .last L ≤ d = l .3 in omega arith)
 
-        ended : (f : From) → Gamma tb (rowOf tb L f) env σ → B ≡ L → takesRightly f atEnd (took e1 p) (took e2 p) (took e3 p) ≡ true → drop (took e1 p) (σ .tok p) ≡ none
+        ended : (f : From) → Gamma tb (rowOf tb L f) env σ → B ≡ L → takesRightly f atEnd (took e1 p) (took e2 p) (took e3 p) ≡ true → unlessTaken (took e1 p) (σ .tok p) ≡ none
         ended atFor H e k = drop-none (took e1 p) (σ .tok p) (H .values p v B d r .off (λ l. not-yet B e (l .0, l .1)))
-        ended atEnd H e k = ap (λ (z : Bool). drop z (σ .tok p)) (and-three (took e1 p) (not (took e2 p)) (not (took e3 p)) k .0)
+        ended atEnd H e k = ap (λ (z : Bool). unlessTaken z (σ .tok p)) (and-three (took e1 p) (not (took e2 p)) (not (took e3 p)) k .0)
 
-        in-body : B ≡ L → Waiting p B d → drop (took e1 p) (σ .tok p) ≡ none
+        in-body : B ≡ L → Waiting p B d → unlessTaken (took e1 p) (σ .tok p) ≡ none
         in-body e (until atFor x y k) = absurd (reads-not tb g L isfor (sym y ∙ e))
         in-body e (until atEnd x y k) = ended from G e k
         in-body e (elsewhere n y) = drop-none (took e1 p) (σ .tok p) (passed from G e (n from))
 
-        go : Vacant v B → drop (took e1 p) (σ .tok p) ≡ none
+        go : Vacant v B → unlessTaken (took e1 p) (σ .tok p) ≡ none
         go (inl e) = in-body e (waiting p v B d r)
         go (inr z) = drop-none (took e1 p) (σ .tok p) (unborn from G z)
 
@@ -377,19 +377,19 @@ module _ (tb : Table) (g : Good tb) (L s t b u c : ℕ) (q : tb .row L ≡ for s
     kept : (p : Use) (v B d : ℕ) → slot tb p ≡ val v B d → On v B none → Stays tb g L isfor to v B → Shows tb (T3 .tok p) v B d pc′ env′
     kept p v B d r o w = go (waiting p v B d r)
       where
-        left : T3 .tok p ≡ drop (took e2 p) (drop (took e1 p) (σ .tok p))
+        left : T3 .tok p ≡ unlessTaken (took e2 p) (unlessTaken (took e1 p) (σ .tok p))
         left =
             after3 p v B d r ∙ put-nothing (gave e3 v B) (gave e2 v B) (took e2 p) (took e3 p) (T1 .tok p) (not-taken-late p v B d r) (o .2)
-            ∙ ap (drop (took e2 p)) (after1 p v B d r)
+            ∙ ap (unlessTaken (took e2 p)) (after1 p v B d r)
 
         -- taken, if it waits until the row where the step begins
         settled : (f at : From) → takesRightly f at (took e1 p) (took e2 p) (took e3 p) ≡ true → d ≡ rowOf tb L at
-            → (drop (took e2 p) (drop (took e1 p) (σ .tok p)) ≡ none) ⊎ ((d ≢ rowOf tb L f) × (took e1 p ≡ false) × (took e2 p ≡ false))
+            → (unlessTaken (took e2 p) (unlessTaken (took e1 p) (σ .tok p)) ≡ none) ⊎ ((d ≢ rowOf tb L f) × (took e1 p ≡ false) × (took e2 p ≡ false))
         settled atFor atFor k e = inl (drop-either (took e1 p) (took e2 p) (σ .tok p) (and-both (took e1 p || took e2 p) (not (took e3 p)) k .0))
         settled atFor atEnd k e = let x = never-taken (took e1 p) (took e2 p) (took e3 p) k in inr (λ z. for-not-end tb g L (tb .last L) isfor (g .for-end L isfor) (sym z ∙ e), x .0, x .1)
         settled atEnd atFor k e = let x = never-taken (took e1 p) (took e2 p) (took e3 p) k in inr (λ z. for-not-end tb g L (tb .last L) isfor (g .for-end L isfor) (sym e ∙ z), x .0, x .1)
         settled atEnd atEnd k e =
-            inl (drop-none (took e2 p) (drop (took e1 p) (σ .tok p)) (ap (λ (z : Bool). drop z (σ .tok p)) (and-three (took e1 p) (not (took e2 p)) (not (took e3 p)) k .0)))
+            inl (drop-none (took e2 p) (unlessTaken (took e1 p) (σ .tok p)) (ap (λ (z : Bool). unlessTaken z (σ .tok p)) (and-three (took e1 p) (not (took e2 p)) (not (took e3 p)) k .0)))
 
         stay : d ≢ rowOf tb L from → took e1 p ≡ false → took e2 p ≡ false → Shows tb (T3 .tok p) v B d pc′ env′
         stay n t1 t2 =
@@ -445,7 +445,7 @@ module _ (tb : Table) (g : Good tb) (L s t b u c : ℕ) (q : tb .row L ≡ for s
 
     seen2 : (n : Role) (k : Input) (x : Port) → inLoop tb L n ≡ true → PortIs tb g L s t b u c q n k x → T1 .tok (into n k) ≡ look2 from to e1 e2 e3 x (takeBy (e1 n) k) (T1 .tok (into n k))
     seen2 n k (link m o) h l = at1 tb g L isfor e1 e2 e3 σ (G .inners) n k m o l
-    seen2 n k (waits at v) h m = after1 (into n k) v (bodyOf tb L at) (rowOf tb L at) m ∙ ap₂ drop (takes-yes tb g L isfor (into n k) n k refl h e1) (word-at from at G (into n k) v m)
+    seen2 n k (waits at v) h m = after1 (into n k) v (bodyOf tb L at) (rowOf tb L at) m ∙ ap₂ unlessTaken (takes-yes tb g L isfor (into n k) n k refl h e1) (word-at from at G (into n k) v m)
     seen2 n k nothing h m = refl
 
     seen3 : (n : Role) (k : Input) (x : Port) → PortIs tb g L s t b u c q n k x → T2 .tok (into n k) ≡ look3 from to e1 e2 e3 x (takeBy (e1 n) k) (takeBy (e2 n) k) (T2 .tok (into n k))

@@ -94,7 +94,7 @@ module _ (t : List ℕ) (S : Structure t) where
   by-test true x y z h = h refl
   by-test false x y z h = refl
 
-  set-is : (r w : ℕ) (env : Env) → Reading.set r w env ≡ setTo r w env
+  set-is : (r w : ℕ) (env : Env) → Reading.setRow r w env ≡ setTo r w env
   unfolding setTo
   set-is r w env = λ i. λ v. set-as-cond (eqb v r) w (env v) i
 
@@ -395,12 +395,12 @@ module _ (t : List ℕ) (S : Structure t) where
   one-step (const w) pc env os s q l F r h =
       move pc (Reading.at (suc pc) env os) r s h (quiet pc env os s F l (λ m. let k = m .5 in let z : _≡_ {A = ℕ} 0 1 = cc in omega arith) (λ e. let z : _≡_ {A = ℕ} 0 1 = cc in omega arith) (ap (plainRow tb g) q))
   one-step (op c x y) pc env os s q l F r h =
-      move pc (Reading.at (suc pc) (Reading.set pc (operate c (env x) (env y)) env) os) r s h
+      move pc (Reading.at (suc pc) (Reading.setRow pc (operate c (env x) (env y)) env) os) r s h
       (subst (λ (z : Env). Onward pc (Reading.at (suc pc) z os) s) (sym (set-is pc (operate c (env x) (env y)) env))
       (straight pc env os s F l (λ m. let k = m .5 in let z : _≡_ {A = ℕ} 0 1 = cc in omega arith) (λ e. let z : _≡_ {A = ℕ} 0 1 = cc in omega arith) (setTo pc (operate c (env x) (env y)) env) (step-op tb g pc c x y q env s (F .gamma))))
   one-step (pick f x y) pc env os s q l F r h =
-      move pc (Reading.at (suc pc) (Reading.set pc (Reading.choose (env f) (env x) (env y)) env) os) r s h
-      (subst (λ (z : Env). Onward pc (Reading.at (suc pc) z os) s) (sym (ap (λ (z : ℕ). Reading.set pc z env) (choose-is (env f) (env x) (env y)) ∙ set-is pc (choose (env f) (env x) (env y)) env))
+      move pc (Reading.at (suc pc) (Reading.setRow pc (Reading.choose (env f) (env x) (env y)) env) os) r s h
+      (subst (λ (z : Env). Onward pc (Reading.at (suc pc) z os) s) (sym (ap (λ (z : ℕ). Reading.setRow pc z env) (choose-is (env f) (env x) (env y)) ∙ set-is pc (choose (env f) (env x) (env y)) env))
       (straight pc env os s F l (λ m. let k = m .5 in let z : _≡_ {A = ℕ} 0 1 = cc in omega arith) (λ e. let z : _≡_ {A = ℕ} 0 1 = cc in omega arith) (setTo pc (choose (env f) (env x) (env y)) env) (step-pick tb g pc f x y q env s (F .gamma))))
   one-step (for a st b u c) pc env os s q l F r h = for-step pc a st b u c q env os s F (env st) refl (condition c (env a) (env b)) refl r h
   one-step (arg i) pc env os s q l F r h = absurd (F .plain i q)

@@ -31,7 +31,7 @@ use Rattle.table.specs.Cases.{const, loop, arg, next, close, out, sumTable, sum
 use Rattle.reading.specs.Reading.{Env, Opening, at, nextNamed, oneTurn, endStep, inputsBelow, firstWords, begin, turn, leave, step, andThen, readFrom, read}
 use Rattle.reading.specs.Cases.{p10-reads-10, p11-reads-0, p12-reads-5, zero-step-at-row-3}
 use Rattle.lowered.specs.Lower.{loweredWords}
-use Rattle.lowered.specs.Room.{ROOM, hasRoom, refusedBy, checkAnswer}
+use Rattle.lowered.specs.Room.{ROOM, inLimits, refusedBy, checkAnswer}
 use Rattle.lowered.specs.Cases.{lowering-computes, sum-table-lowers-to-the-102-words}
 use Rattle.faithful.specs.Conditions.{turnsOf}
 use Rattle.faithful.specs.EndState.{endState}
@@ -50,21 +50,21 @@ reading-computes = 0
 pub checked : (n : ℕ) (R : Refusal) (b : Bool) → R ≡ answer 0 0 → b ≡ true → cond (eqb (R .number) 0) (cond b (answer 0 0) (answer ROOM n)) R .number ≡ 0
 checked n R b h k = rw (h, k)
 
-sum-has-room : hasRoom sumTable ≡ true
-unfolding hasRoom lowering-computes
+sum-has-room : inLimits sumTable ≡ true
+unfolding inLimits lowering-computes
 sum-has-room = refl
 
 pub sum-is-checked : checkAnswer sumTable .number ≡ 0
 unfolding checkAnswer refusedBy
-sum-is-checked = checked (size sumTable) (tableRefusal sumTable) (hasRoom sumTable) sum-passes sum-has-room
+sum-is-checked = checked (size sumTable) (tableRefusal sumTable) (inLimits sumTable) sum-passes sum-has-room
 
-p12-has-room : hasRoom p12Table ≡ true
-unfolding hasRoom lowering-computes
+p12-has-room : inLimits p12Table ≡ true
+unfolding inLimits lowering-computes
 p12-has-room = refl
 
 pub p12-is-checked : checkAnswer p12Table .number ≡ 0
 unfolding checkAnswer refusedBy
-p12-is-checked = checked (size p12Table) (tableRefusal p12Table) (hasRoom p12Table) p12-passes p12-has-room
+p12-is-checked = checked (size p12Table) (tableRefusal p12Table) (inLimits p12Table) p12-passes p12-has-room
 
 -- what an order that rests leaves on the result wire, and has put on the conditions of the loop at row L
 pub record Leaves (t inputs : List ℕ) (L word : ℕ) (raw gated : List ℕ) (order u : List ℕ) : Type 0 where
@@ -108,13 +108,13 @@ zero-passes : tableRefusal (sumBy 0) ≡ answer 0 0
 unfolding check-computes
 zero-passes = refl
 
-zero-has-room : hasRoom (sumBy 0) ≡ true
-unfolding hasRoom lowering-computes
+zero-has-room : inLimits (sumBy 0) ≡ true
+unfolding inLimits lowering-computes
 zero-has-room = refl
 
 zero-is-checked : checkAnswer (sumBy 0) .number ≡ 0
 unfolding checkAnswer refusedBy
-zero-is-checked = checked (size (sumBy 0)) (tableRefusal (sumBy 0)) (hasRoom (sumBy 0)) zero-passes zero-has-room
+zero-is-checked = checked (size (sumBy 0)) (tableRefusal (sumBy 0)) (inLimits (sumBy 0)) zero-passes zero-has-room
 
 zero-outermost : (bodyOf (sumBy 0) 3 ≡ size (sumBy 0)) × (streamNode (sumBy 0) 3 ≡ 0)
 unfolding lowering-computes
@@ -135,13 +135,13 @@ stay-passes : tableRefusal stayTable ≡ answer 0 0
 unfolding check-computes
 stay-passes = refl
 
-stay-has-room : hasRoom stayTable ≡ true
-unfolding hasRoom lowering-computes
+stay-has-room : inLimits stayTable ≡ true
+unfolding inLimits lowering-computes
 stay-has-room = refl
 
 pub stay-is-checked : checkAnswer stayTable .number ≡ 0
 unfolding checkAnswer refusedBy
-stay-is-checked = checked (size stayTable) (tableRefusal stayTable) (hasRoom stayTable) stay-passes stay-has-room
+stay-is-checked = checked (size stayTable) (tableRefusal stayTable) (inLimits stayTable) stay-passes stay-has-room
 
 -- at NEXT and at END, in whatever turn
 in-the-body : (k : ℕ) (env : Env) (os : List Opening) → env 0 ≡ 0 → env 1 ≡ 1 → env 2 ≡ 0

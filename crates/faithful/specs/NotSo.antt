@@ -34,7 +34,7 @@ use Rattle.table.specs.Cases.{const, loop, close, out}
 use Rattle.reading.specs.Reading.{opening, zeroStep}
 use Rattle.reading.specs.Outcome.{Reads}
 use Rattle.lowered.specs.Lower.{loweredWords}
-use Rattle.lowered.specs.Room.{hasRoom, refusedBy, checkAnswer}
+use Rattle.lowered.specs.Room.{inLimits, refusedBy, checkAnswer}
 use Rattle.lowered.specs.Cases.{lowering-computes}
 use Rattle.laid.specs.Answers.{checked-table-lowers}
 use Rattle.faithful.specs.Statements.{loadedTable, streamNode}
@@ -57,13 +57,13 @@ index-steps-passes : tableRefusal indexSteps ≡ answer 0 0
 unfolding check-computes
 index-steps-passes = refl
 
-index-steps-has-room : hasRoom indexSteps ≡ true
-unfolding hasRoom lowering-computes
+index-steps-has-room : inLimits indexSteps ≡ true
+unfolding inLimits lowering-computes
 index-steps-has-room = refl
 
 pub index-steps-is-checked : checkAnswer indexSteps .number ≡ 0
 unfolding checkAnswer refusedBy
-index-steps-is-checked = checked (size indexSteps) (tableRefusal indexSteps) (hasRoom indexSteps) index-steps-passes index-steps-has-room
+index-steps-is-checked = checked (size indexSteps) (tableRefusal indexSteps) (inLimits indexSteps) index-steps-passes index-steps-has-room
 
 pub index-steps-at-row-3 : Reads indexSteps [] (zeroStep 3 (opening 1 1 ∷ opening 2 2 ∷ opening 3 0 ∷ []))
 unfolding reading-computes
@@ -143,13 +143,13 @@ beside-endless-passes : tableRefusal besideEndless ≡ answer 0 0
 unfolding check-computes
 beside-endless-passes = refl
 
-beside-endless-has-room : hasRoom besideEndless ≡ true
-unfolding hasRoom lowering-computes
+beside-endless-has-room : inLimits besideEndless ≡ true
+unfolding inLimits lowering-computes
 beside-endless-has-room = refl
 
 pub beside-endless-is-checked : checkAnswer besideEndless .number ≡ 0
 unfolding checkAnswer refusedBy
-beside-endless-is-checked = checked (size besideEndless) (tableRefusal besideEndless) (hasRoom besideEndless) beside-endless-passes beside-endless-has-room
+beside-endless-is-checked = checked (size besideEndless) (tableRefusal besideEndless) (inLimits besideEndless) beside-endless-passes beside-endless-has-room
 
 pub beside-endless-at-row-2 : Reads besideEndless [] (zeroStep 2 [])
 unfolding reading-computes

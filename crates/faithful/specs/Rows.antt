@@ -22,7 +22,7 @@ use Rattle.step.specs.Machines.{program, rest}
 use Rattle.step.specs.declared.Record.{Record}
 use Rattle.table.specs.Bodies.{Row, input, const, op, pick, for, arg, next, end, out, unknown}
 use Rattle.lowered.specs.Roles.{Role, sameRole, opNode, stream, gate, guard, copySplit, copyInvariant, carry, argSplit, Wire, start, output, Use, into, result}
-use Rattle.uses.specs.Machine.{State, giveBy, takeBy, nextBy, put, drop, listed, given, taken, viewOf, after, one, one-same, one-other, Steps}
+use Rattle.uses.specs.Machine.{State, giveBy, takeBy, nextBy, put, unlessTaken, listed, given, taken, viewOf, after, one, one-same, one-other, Steps}
 use Rattle.faithful.specs.Table.{Table, Slot, val, inner, absent, IsFor, wireOf, since, slot, slotWire, src, isOp, isStart, Real, programOf, plan}
 use Rattle.faithful.specs.Good.{Inner, Good, Source, fromStart, fromOp, fromFor, fromArg, fromNext, fromCopy, source, When, byOp, byFor, byEnd, byOut, when, Inward, inward}
 use Rattle.faithful.specs.Members.{no-op}
@@ -60,7 +60,7 @@ pub runs-by : (f : Record → Program) (s : State) (n : Role) (a b c : Option �
     → perform (f r) (sight a b c r) ≡ some e → perform (f (s .own n)) (viewOf s n) ≡ some e
 runs-by f s n a b c r e p q t o h = (λ i. perform (f (o i)) (record { word0 = p i; word1 = q i; word2 = t i; room0 = true; room1 = true; own = o i })) ∙ h
 
-pub put-drop-none : (g : Option ℕ) (b : Bool) (t : Option ℕ) → g ≡ none → t ≡ none → put g (drop b t) ≡ none
+pub put-drop-none : (g : Option ℕ) (b : Bool) (t : Option ℕ) → g ≡ none → t ≡ none → put g (unlessTaken b t) ≡ none
 put-drop-none g true t p q = rw p
 put-drop-none g false t p q = rw (p, q)
 
@@ -266,7 +266,7 @@ module _ (tb : Table) (g : Good tb) where
         let b1 : tb .last B ≢ r = b .1 in
         let bf : v < c = u .before in
         let same : after (plan tb) E s .tok p ≡ put (given E (some (wireOf tb v B))) (s .tok p)
-        = ap₂ (λ (y : Slot) (z : Bool). put (given E (slotWire tb y)) (drop z (s .tok p))) q (not-taken p np) in
+        = ap₂ (λ (y : Slot) (z : Bool). put (given E (slotWire tb y)) (unlessTaken z (s .tok p))) q (not-taken p np) in
         elim (ℕ-discrete v r) [
           | yes d ↦ elim (ℕ-discrete (tb .home v) B) [
             | yes h ↦
@@ -305,7 +305,7 @@ module _ (tb : Table) (g : Good tb) where
         let bf : v < c = u .before in
         let t : taken E p ≡ true = ap (taken E) d ∙ ap (λ (z : Option Effect). takeBy z k) (one-same (opNode r) e) ∙ tk k v B c (ap (slot tb) (sym d) ∙ q) in
         shows-none tb (after (plan tb) E s .tok p) v B c (suc r) (setTo r w env)
-        (ap₂ (λ (y : Slot) (z : Bool). put (given E (slotWire tb y)) (drop z (s .tok p))) q t
+        (ap₂ (λ (y : Slot) (z : Bool). put (given E (slotWire tb y)) (unlessTaken z (s .tok p))) q t
         ∙ ap (λ (y : Option ℕ). put y none) (other-wire v B (λ y _. let z : ⊥ = omega arith in z)))
         (λ l. let l3 = l .3 in omega arith)
 
@@ -324,7 +324,7 @@ module _ (tb : Table) (g : Good tb) where
 
     inns-op : (p : Use) (u : Wire) → slot tb p ≡ inner u → after (plan tb) E s .tok p ≡ none
     inns-op p u q =
-        ap (λ (y : Slot). put (given E (slotWire tb y)) (drop (taken E p) (s .tok p))) q
+        ap (λ (y : Slot). put (given E (slotWire tb y)) (unlessTaken (taken E p) (s .tok p))) q
         ∙ put-drop-none (given E (some u)) (taken E p) (s .tok p) (not-given u (λ o h. go (inward tb p u q) o h)) (G .inners p u q)
       where
         go : Inward tb p u → (o : Output) → u ≡ output (opNode r) o → ⊥

@@ -21,7 +21,7 @@ use Rattle.step.specs.Kinds.{Input, in0, in1, Output, out0, out1}
 use Rattle.step.specs.Firing.{Effect, perform, gives, room}
 use Rattle.table.specs.Bodies.{arg}
 use Rattle.lowered.specs.Roles.{Role, opNode, stream, gate, guard, copySplit, copyInvariant, carry, argSplit, Wire, output, Use, into}
-use Rattle.uses.specs.Machine.{State, giveBy, takeBy, nextBy, put, drop, listed, given, taken, viewOf, after, Ready, Steps, steps-append}
+use Rattle.uses.specs.Machine.{State, giveBy, takeBy, nextBy, put, unlessTaken, listed, given, taken, viewOf, after, Ready, Steps, steps-append}
 use Rattle.faithful.specs.Table.{Table, Slot, val, inner, IsFor, wireOf, slot, slotWire, src, isArg, Real, programOf, plan}
 use Rattle.faithful.specs.Members.{inLoop, arg-row, in-two, in-arg, is-eqb, in-one}
 use Rattle.faithful.specs.Good.{Good, Inward, inward}
@@ -37,11 +37,11 @@ Effects = Role → Option Effect
 
 -- ---- what a stage does to a token
 
-pub drop-none : (b : Bool) (x : Option ℕ) → x ≡ none → drop b x ≡ none
+pub drop-none : (b : Bool) (x : Option ℕ) → x ≡ none → unlessTaken b x ≡ none
 drop-none true x h = refl
 drop-none false x h = h
 
-pub drop-either : (a b : Bool) (x : Option ℕ) → (a || b) ≡ true → drop b (drop a x) ≡ none
+pub drop-either : (a b : Bool) (x : Option ℕ) → (a || b) ≡ true → unlessTaken b (unlessTaken a x) ≡ none
 drop-either true b x h = drop-none b none refl
 drop-either false true x h = refl
 drop-either false false x h = let z : _≡_ {A = ℕ} 0 1 = cc in absurd (omega arith)
@@ -54,12 +54,12 @@ pub no-gift : {A : Type 0} → (o : Option ℕ) (y : ℕ) → o ≡ none → o �
 no-gift o y a b = let z : _≡_ {A = ℕ} 0 1 = cc in absurd (omega arith)
 
 -- stages 2 and 3 at a use that is empty before; at one on which they give nothing
-pub put-late : (a b : Option ℕ) (t2 t3 : Bool) (x : Option ℕ) → t3 ≡ false → x ≡ none → put a (drop t3 (put b (drop t2 x))) ≡ put a b
+pub put-late : (a b : Option ℕ) (t2 t3 : Bool) (x : Option ℕ) → t3 ≡ false → x ≡ none → put a (unlessTaken t3 (put b (unlessTaken t2 x))) ≡ put a b
 put-late none none t2 t3 x e h = rw e (drop-none t2 x h)
 put-late none (some y) t2 t3 x e h = rw e
 put-late (some y) b t2 t3 x e h = refl
 
-pub put-nothing : (a b : Option ℕ) (t2 t3 : Bool) (x : Option ℕ) → t3 ≡ false → put a b ≡ none → put a (drop t3 (put b (drop t2 x))) ≡ drop t2 x
+pub put-nothing : (a b : Option ℕ) (t2 t3 : Bool) (x : Option ℕ) → t3 ≡ false → put a b ≡ none → put a (unlessTaken t3 (put b (unlessTaken t2 x))) ≡ unlessTaken t2 x
 put-nothing a b t2 t3 x e h = let n = put-none a b h in let n0 = n .0 in let n1 = n .1 in rw (n0, n1, e)
 
 module _ (tb : Table) (g : Good tb) (L : ℕ) (f : IsFor tb L) where
@@ -94,23 +94,23 @@ module _ (tb : Table) (g : Good tb) (L : ℕ) (f : IsFor tb L) where
 
   -- one stage at an inner use, at a value's use, at a record
   abbrev pub flow : Effects → Role → Input → Role → Output → Option ℕ → Option ℕ
-  flow e n k m o t = put (giveBy (e m) o) (drop (takeBy (e n) k) t)
+  flow e n k m o t = put (giveBy (e m) o) (unlessTaken (takeBy (e n) k) t)
 
   pub link-token : (e : Effects) (s : State) (n : Role) (k : Input) (m : Role) (o : Output) → Link n k m o → (t : Option ℕ) → s .tok (into n k) ≡ t
       → after (plan tb) (only tb L e) s .tok (into n k) ≡ flow e n k m o t
   link-token e s n k m o l t q =
-      ap (λ (z : Slot). put (given (only tb L e) (slotWire tb z)) (drop (taken (only tb L e) (into n k)) (s .tok (into n k)))) (l .reads)
-      ∙ ap₂ (λ (a b : Option Effect). put (giveBy a o) (drop (takeBy b k) (s .tok (into n k)))) (only-yes tb L e m (l .from-in)) (only-yes tb L e n (l .node-in))
+      ap (λ (z : Slot). put (given (only tb L e) (slotWire tb z)) (unlessTaken (taken (only tb L e) (into n k)) (s .tok (into n k)))) (l .reads)
+      ∙ ap₂ (λ (a b : Option Effect). put (giveBy a o) (unlessTaken (takeBy b k) (s .tok (into n k)))) (only-yes tb L e m (l .from-in)) (only-yes tb L e n (l .node-in))
       ∙ ap (flow e n k m o) q
 
   pub tok-un : (e : Effects) (s : State) (p : Use) (w : Wire) → slot tb p ≡ inner w → given (only tb L e) (some w) ≡ none → taken (only tb L e) p ≡ false
       → s .tok p ≡ none → after (plan tb) (only tb L e) s .tok p ≡ none
   tok-un e s p w q a b c =
-      ap (λ (z : Slot). put (given (only tb L e) (slotWire tb z)) (drop (taken (only tb L e) p) (s .tok p))) q ∙ put-drop-none (given (only tb L e) (some w)) (taken (only tb L e) p) (s .tok p) a c
+      ap (λ (z : Slot). put (given (only tb L e) (slotWire tb z)) (unlessTaken (taken (only tb L e) p) (s .tok p))) q ∙ put-drop-none (given (only tb L e) (some w)) (taken (only tb L e) p) (s .tok p) a c
 
   pub tokv : (e : Effects) (s : State) (p : Use) (v B c : ℕ) → slot tb p ≡ val v B c
-      → after (plan tb) (only tb L e) s .tok p ≡ put (given (only tb L e) (some (wireOf tb v B))) (drop (taken (only tb L e) p) (s .tok p))
-  tokv e s p v B c q = ap (λ (z : Slot). put (given (only tb L e) (slotWire tb z)) (drop (taken (only tb L e) p) (s .tok p))) q
+      → after (plan tb) (only tb L e) s .tok p ≡ put (given (only tb L e) (some (wireOf tb v B))) (unlessTaken (taken (only tb L e) p) (s .tok p))
+  tokv e s p v B c q = ap (λ (z : Slot). put (given (only tb L e) (slotWire tb z)) (unlessTaken (taken (only tb L e) p) (s .tok p))) q
 
   pub own-in : (e : Effects) (s : State) (n : Role) → inLoop tb L n ≡ true → after (plan tb) (only tb L e) s .own n ≡ nextBy (e n) (s .own n)
   own-in e s n h = ap (λ (z : Option Effect). nextBy z (s .own n)) (only-yes tb L e n h)

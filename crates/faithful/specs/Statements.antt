@@ -58,7 +58,7 @@ use Rattle.reading.specs.Outcome.{Reads}
 use Rattle.lowered.specs.Gathered.{position}
 use Rattle.lowered.specs.Roles.{stream, gate, output, sameRole}
 use Rattle.lowered.specs.Lower.{roles, wireNumber, loweredWords}
-use Rattle.lowered.specs.Room.{hasRoom, fitsInto, refusedBy, checkAnswer, lowerRefusal}
+use Rattle.lowered.specs.Room.{inLimits, fitsInto, refusedBy, checkAnswer, lowerRefusal}
 use Rattle.laid.specs.Answers.{number-0-is-no-refusal, checked-table-lowers}
 use Rattle.faithful.specs.Conditions.{turnsOf, turns-reverse, rawOf, gatedOf}
 use Rattle.faithful.specs.Tables.{tableOf, for-row, for-kind}
@@ -128,14 +128,14 @@ passes : (t : List ℕ) → checkAnswer t .number ≡ 0 → tableRefusal t ≡ a
 unfolding checkAnswer refusedBy
 passes t h = number-0-is-no-refusal t (go (eqb (tableRefusal t .number) 0) refl h)
   where
-    go : (b : Bool) → eqb (tableRefusal t .number) 0 ≡ b → cond b (cond (hasRoom t) (answer 0 0) (answer 10 (size t))) (tableRefusal t) .number ≡ 0 → tableRefusal t .number ≡ 0
+    go : (b : Bool) → eqb (tableRefusal t .number) 0 ≡ b → cond b (cond (inLimits t) (answer 0 0) (answer 10 (size t))) (tableRefusal t) .number ≡ 0 → tableRefusal t .number ≡ 0
     go true e k = eqb-true (tableRefusal t .number) 0 e
     go false e k = k
 
 -- A table that `lower` has written into so many lent words is checked: what follows holds of every graph that `lower` writes.
 pub written-table-is-checked : (t : List ℕ) (lent : ℕ) → lowerRefusal t lent .number ≡ 0 → checkAnswer t .number ≡ 0
 unfolding lowerRefusal checkAnswer refusedBy fitsInto
-written-table-is-checked t lent = go (eqb (tableRefusal t .number) 0) (hasRoom t) (leb (length (loweredWords t)) lent)
+written-table-is-checked t lent = go (eqb (tableRefusal t .number) 0) (inLimits t) (leb (length (loweredWords t)) lent)
   where
     go : (b room fits : Bool) → cond b (cond (room && fits) (answer 0 0) (answer 10 (size t))) (tableRefusal t) .number ≡ 0
         → cond b (cond room (answer 0 0) (answer 10 (size t))) (tableRefusal t) .number ≡ 0

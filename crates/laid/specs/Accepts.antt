@@ -29,7 +29,7 @@ use Rattle.structure.specs.Structure.{Structure, passing-table-has-structure}
 use Rattle.lowered.specs.Gathered.{those, each}
 use Rattle.lowered.specs.Roles.{start, result}
 use Rattle.lowered.specs.Lower.{isStart, startRows, starts, outRows, loweredNodes, startWords, nodeTotal, wireTotal, startTotal, resultTotal, loweredWords}
-use Rattle.lowered.specs.Room.{hasRoom}
+use Rattle.lowered.specs.Room.{inLimits}
 use Rattle.laid.specs.Lists.{there, in-range, has-elem, elem-left, elem-right, none-some}
 use Rattle.laid.specs.Indexed.{total-same, total-along, sumOf, sum-append}
 use Rattle.laid.specs.Listed.{and-both}
@@ -163,8 +163,8 @@ pub record Roomy (t : List ℕ) : Type 0 where
   pub starts : startTotal t ≤ 512
   pub results : resultTotal t ≤ 512
 
-pub roomy : (t : List ℕ) → hasRoom t ≡ true → Roomy t
-unfolding hasRoom
+pub roomy : (t : List ℕ) → inLimits t ≡ true → Roomy t
+unfolding inLimits
 roomy t e =
     let a = and-both (leb (nodeTotal t) 4096) _ e in
     let b = and-both (leb (wireTotal t) 8192) _ (a .1) in
@@ -267,5 +267,5 @@ module _ (t : List ℕ) (S : Structure t) (room : Roomy t) where
   lowered-graph-is-not-refused = accepted-is-not-refused g lowered-graph-is-accepted
 
 -- EVERY GRAPH THAT LOWERING WRITES PASSES check_graph
-pub accepted-table-lowers-to-an-accepted-graph : (t : List ℕ) → tableRefusal t ≡ answer 0 0 → hasRoom t ≡ true → graphRefusal (loweredWords t) ≡ 0
+pub accepted-table-lowers-to-an-accepted-graph : (t : List ℕ) → tableRefusal t ≡ answer 0 0 → inLimits t ≡ true → graphRefusal (loweredWords t) ≡ 0
 accepted-table-lowers-to-an-accepted-graph t e r = lowered-graph-is-not-refused t (passing-table-has-structure t e) (roomy t r)

@@ -21,15 +21,15 @@ use Rattle.graph.specs.Refusal.{graphRefusal}
 use Rattle.table.specs.Rows.{size}
 use Rattle.table.specs.Check.{lengthRight, endRight, rowRefusal, Refusal, answer, rowsFrom, tableRefusal}
 use Rattle.lowered.specs.Lower.{loweredWords}
-use Rattle.lowered.specs.Room.{ROOM, hasRoom, fitsInto, refusedBy, checkAnswer, lowerRefusal, lentAfter}
+use Rattle.lowered.specs.Room.{ROOM, inLimits, fitsInto, refusedBy, checkAnswer, lowerRefusal, lentAfter}
 use Rattle.laid.specs.Listed.{and-both}
 use Rattle.laid.specs.Accepts.{accepted-table-lowers-to-an-accepted-graph}
 
 module _ (t : List ℕ) where
   -- ---- with lent words enough, the two tests of room are one
-  same-room : (lent : ℕ) → length (loweredWords t) ≤ lent → fitsInto t lent ≡ hasRoom t
+  same-room : (lent : ℕ) → length (loweredWords t) ≤ lent → fitsInto t lent ≡ inLimits t
   unfolding fitsInto
-  same-room lent h = rw (le-leb (length (loweredWords t)) lent h) (and-right (hasRoom t))
+  same-room lent h = rw (le-leb (length (loweredWords t)) lent h) (and-right (inLimits t))
     where
       and-right : (b : Bool) → b && true ≡ b
       and-right true = refl
@@ -60,7 +60,7 @@ module _ (t : List ℕ) where
 
   pub lower-refuses-too-little-room : (lent : ℕ) → lent < length (loweredWords t) → tableRefusal t .number ≡ 0 → lowerRefusal t lent ≡ answer ROOM (size t)
   unfolding lowerRefusal refusedBy fitsInto
-  lower-refuses-too-little-room lent h e = rw (e, lt-leb (length (loweredWords t)) lent h) (no-room (hasRoom t))
+  lower-refuses-too-little-room lent h e = rw (e, lt-leb (length (loweredWords t)) lent h) (no-room (inLimits t))
     where
       no-room : (b : Bool) → cond (b && false) (answer 0 0) (answer ROOM (size t)) ≡ answer ROOM (size t)
       no-room true = refl
@@ -90,23 +90,23 @@ module _ (t : List ℕ) where
 
   pub passed-check : checkAnswer t .number ≡ 0 → tableRefusal t .number ≡ 0
   unfolding checkAnswer
-  passed-check h = refused-none (hasRoom t) h .0
+  passed-check h = refused-none (inLimits t) h .0
 
   -- ---- what is written is accepted
   pub checked-table-lowers : checkAnswer t .number ≡ 0 → graphRefusal (loweredWords t) ≡ 0
   unfolding checkAnswer
   checked-table-lowers h =
-      let p = refused-none (hasRoom t) h in
+      let p = refused-none (inLimits t) h in
       accepted-table-lowers-to-an-accepted-graph t (number-0-is-no-refusal (p .0)) (p .1)
 
   pub written-graph-is-accepted : (lent : ℕ) → lowerRefusal t lent .number ≡ 0 → graphRefusal (loweredWords t) ≡ 0
   unfolding lowerRefusal fitsInto
   written-graph-is-accepted lent h =
-      let p = refused-none (hasRoom t && leb (length (loweredWords t)) lent) h in
-      accepted-table-lowers-to-an-accepted-graph t (number-0-is-no-refusal (p .0)) (and-both (hasRoom t) (leb (length (loweredWords t)) lent) (p .1) .0)
+      let p = refused-none (inLimits t && leb (length (loweredWords t)) lent) h in
+      accepted-table-lowers-to-an-accepted-graph t (number-0-is-no-refusal (p .0)) (and-both (inLimits t) (leb (length (loweredWords t)) lent) (p .1) .0)
 
   pub written-graph-fits : (lent : ℕ) → lowerRefusal t lent .number ≡ 0 → length (loweredWords t) ≤ lent
   unfolding lowerRefusal fitsInto
   written-graph-fits lent h =
-      let p = refused-none (hasRoom t && leb (length (loweredWords t)) lent) h in
-      leb-true (length (loweredWords t)) lent (and-both (hasRoom t) (leb (length (loweredWords t)) lent) (p .1) .1)
+      let p = refused-none (inLimits t && leb (length (loweredWords t)) lent) h in
+      leb-true (length (loweredWords t)) lent (and-both (inLimits t) (leb (length (loweredWords t)) lent) (p .1) .1)

@@ -23,7 +23,7 @@ use Rattle.lowered.specs.Gathered.{gathered, those, some?, each, positio
 use Rattle.lowered.specs.Roles.{sameRole, sameOutput, sameInput, sameWire, sameUse}
 use Rattle.lowered.specs.Sources.{inside, names, carried, homeWire, valueWire, feed, source}
 use Rattle.lowered.specs.Lower.{carriedInto, rowRoles, roles, startRows, starts, wires, wireNumber, outRows, uses, readersIn, users, legOf, plainNodes, plainWires, allUsers, standsOn, loweredNodes, nodeTotal, wireTotal, startTotal, resultTotal, loweredWords}
-use Rattle.lowered.specs.Room.{ROOM, hasRoom, fitsInto, refusedBy, checkAnswer, lowerRefusal, lowerAnswer, lentAfter}
+use Rattle.lowered.specs.Room.{ROOM, inLimits, fitsInto, refusedBy, checkAnswer, lowerRefusal, lowerAnswer, lentAfter}
 
 -- everything that lowering computes with
 unfoldable pub lowering-computes : ℕ
@@ -142,7 +142,7 @@ changed-row-changes-its-start = refl
 
 -- everything that the answers compute with, besides
 checking-computes : ℕ
-unfolding usedWords wantedSort bodyOpen endPassed visible lengthRight kindRight zerosFrom spareRight codeRight follows stands placeRight depthRight namesFrom namesRight typesFrom typesRight endRight rowRefusal rowsFrom tableRefusal hasRoom fitsInto refusedBy checkAnswer lowerRefusal lowerAnswer lentAfter
+unfolding usedWords wantedSort bodyOpen endPassed visible lengthRight kindRight zerosFrom spareRight codeRight follows stands placeRight depthRight namesFrom namesRight typesFrom typesRight endRight rowRefusal rowsFrom tableRefusal inLimits fitsInto refusedBy checkAnswer lowerRefusal lowerAnswer lentAfter
 checking-computes = 0
 
 pub sum-table-has-room : checkAnswer sumTable ≡ answer 0 0
@@ -150,7 +150,7 @@ unfolding lowering-computes checking-computes
 sum-table-has-room = refl
 
 -- 'the graph's words are no more than are lent': 101 are too few, and the row count is 9; a refusal 'leaves every lent word as it was'
-pub one-word-short : lowerAnswer sumTable 101 ≡ record { number = ROOM; row = 9; length = 0 }
+pub one-word-short : lowerAnswer sumTable 101 ≡ record { number = ROOM; row = 9; written = 0 }
 unfolding lowering-computes checking-computes
 one-word-short = refl
 
@@ -163,6 +163,6 @@ pub two-words-left : lentAfter sumTable (replicate 104 7) ≡ sumGraph ++ (7 ∷
 unfolding lowering-computes checking-computes sumGraph
 two-words-left = refl
 
-pub length-is-answered : lowerAnswer sumTable 104 ≡ record { number = 0; row = 0; length = 102 }
+pub length-is-answered : lowerAnswer sumTable 104 ≡ record { number = 0; row = 0; written = 102 }
 unfolding lowering-computes checking-computes
 length-is-answered = refl

@@ -1,6 +1,6 @@
 -- What the two entries answer: docs/RULES.md, section 'Refusal numbers', 10.
 --
---   hasRoom               the four counts are in their limits
+--   inLimits               the four counts are in their limits
 --   checkAnswer           check_table: 1 to 9, then 10 by the counts alone
 --   lowerAnswer           lower: 1 to 9, then 10 by the counts or the lent words; else the length
 --   lentAfter             the lent words after lower
@@ -20,13 +20,13 @@ abbrev pub ROOM : ℕ
 ROOM = 10
 
 -- 'n is at most 4,096, W at most 8,192, and S and R at most 512'
-unfoldable pub hasRoom : List ℕ → Bool
-hasRoom t =
+unfoldable pub inLimits : List ℕ → Bool
+inLimits t =
     leb (nodeTotal t) 4096 && (leb (wireTotal t) 8192 && (leb (startTotal t) 512 && leb (resultTotal t) 512))
 
 -- '`lower` asks besides that the graph's words are no more than are lent'
 unfoldable pub fitsInto : List ℕ → ℕ → Bool
-fitsInto t lent = hasRoom t && leb (length (loweredWords t)) lent
+fitsInto t lent = inLimits t && leb (length (loweredWords t)) lent
 
 -- 'After 1 to 9, ROOM is refused', and 'The row is the row count'. A `let` waits, so nothing is lowered before the table has passed.
 unfoldable pub refusedBy : List ℕ → Bool → Refusal
@@ -36,16 +36,16 @@ refusedBy t room =
 
 -- '`check_table` is lent no words, so it looks at the counts alone.'
 unfoldable pub checkAnswer : List ℕ → Refusal
-checkAnswer t = refusedBy t (hasRoom t)
+checkAnswer t = refusedBy t (inLimits t)
 
 unfoldable pub lowerRefusal : List ℕ → ℕ → Refusal
 lowerRefusal t lent = refusedBy t (fitsInto t lent)
 
--- what lower answers: a number and a row, and the length where the number is 0
+-- what lower answers: a number and a row, and how many words it has written, 0 where it refuses
 pub record Lowered : Type 0 where
   pub number : ℕ
   pub row : ℕ
-  pub length : ℕ
+  pub written : ℕ
 
 unfoldable pub lowerAnswer : List ℕ → ℕ → Lowered
 lowerAnswer t lent =
@@ -53,7 +53,7 @@ lowerAnswer t lent =
     record {
       number = lowerRefusal t lent .number;
       row = lowerRefusal t lent .row;
-      length = cond (eqb (lowerRefusal t lent .number) 0) done 0;
+      written = cond (eqb (lowerRefusal t lent .number) 0) done 0;
     }
 
 -- 'it writes the graph from the first lent word on, leaves the lent words behind it'; a refusal 'leaves every lent word as it was'.

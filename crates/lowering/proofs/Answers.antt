@@ -12,7 +12,7 @@ use lib.Seq.{sets}
 use Rattle.table.specs.Rows.{size}
 use Rattle.table.specs.Check.{Refusal, answer, tableRefusal}
 use Rattle.lowered.specs.Lower.{loweredWords}
-use Rattle.lowered.specs.Room.{hasRoom, fitsInto, refusedBy, checkAnswer, lowerRefusal, lowerAnswer, lentAfter}
+use Rattle.lowered.specs.Room.{inLimits, fitsInto, refusedBy, checkAnswer, lowerRefusal, lowerAnswer, lentAfter}
 use Rattle.laid.specs.Words.{words-long}
 use Rattle.measuring.specs.Passed.{and-false, refused-by, passed-by}
 use Rattle.measuring.specs.Ready.{Counted}
@@ -34,16 +34,16 @@ module _ (t : List ℕ) {k r : ℕ} (e : answer k r ≡ tableRefusal t) where
 
   pub check-refused : (k ≡ 0 → ⊥) → answer k r ≡ checkAnswer t
   unfolding checkAnswer
-  check-refused n = refused-by t e (hasRoom t) n
+  check-refused n = refused-by t e (inLimits t) n
 
-  pub check-done : {b : Bool} → k ≡ 0 → b ≡ hasRoom t → b ≡ true → answer 0 0 ≡ checkAnswer t
+  pub check-done : {b : Bool} → k ≡ 0 → b ≡ inLimits t → b ≡ true → answer 0 0 ≡ checkAnswer t
   unfolding checkAnswer
-  check-done z h b = sym (passed-by t e (hasRoom t) z ∙ ap (λ (x : Bool). cond x (answer 0 0) (answer 10 (size t))) (sym h ∙ b))
+  check-done z h b = sym (passed-by t e (inLimits t) z ∙ ap (λ (x : Bool). cond x (answer 0 0) (answer 10 (size t))) (sym h ∙ b))
 
-  pub check-crowded : {b : Bool} {n : ℕ} → k ≡ 0 → n ≡ size t → b ≡ hasRoom t → b ≡ false → answer 10 n ≡ checkAnswer t
+  pub check-crowded : {b : Bool} {n : ℕ} → k ≡ 0 → n ≡ size t → b ≡ inLimits t → b ≡ false → answer 10 n ≡ checkAnswer t
   unfolding checkAnswer
   check-crowded z en h b =
-      ap (answer 10) en ∙ sym (passed-by t e (hasRoom t) z ∙ ap (λ (x : Bool). cond x (answer 0 0) (answer 10 (size t))) (sym h ∙ b))
+      ap (answer 10) en ∙ sym (passed-by t e (inLimits t) z ∙ ap (λ (x : Bool). cond x (answer 0 0) (answer 10 (size t))) (sym h ∙ b))
 
   -- ---- lower
 
@@ -64,19 +64,19 @@ module _ (t : List ℕ) {k r : ℕ} (e : answer k r ≡ tableRefusal t) where
     without z en h =
         refused (ap (answer 10) en ∙ sym (passed-by t e (fitsInto t (length lent)) z ∙ ap (λ (x : Bool). cond x (answer 0 0) (answer 10 (size t))) h)) (λ q. omega arith)
 
-    pub lower-crowded : {b : Bool} {n : ℕ} → k ≡ 0 → n ≡ size t → b ≡ hasRoom t → b ≡ false → LowerAnswer t lent 10 n 0 lent
+    pub lower-crowded : {b : Bool} {n : ℕ} → k ≡ 0 → n ≡ size t → b ≡ inLimits t → b ≡ false → LowerAnswer t lent 10 n 0 lent
     unfolding fitsInto
     lower-crowded z en h b = without z en (ap (λ (x : Bool). x && leb (length (loweredWords t)) (length lent)) (sym h ∙ b))
 
     pub lower-lent : {n words : ℕ} → k ≡ 0 → n ≡ size t → words ≡ length (loweredWords t) → length lent < words → LowerAnswer t lent 10 n 0 lent
     unfolding fitsInto
-    lower-lent z en h l = without z en (rw (lt-leb (length (loweredWords t)) (length lent) (omega arith)) (and-false (hasRoom t)))
+    lower-lent z en h l = without z en (rw (lt-leb (length (loweredWords t)) (length lent) (omega arith)) (and-false (inLimits t)))
 
-    pub lower-done : {b : Bool} {words : ℕ} {after : List ℕ} → k ≡ 0 → b ≡ hasRoom t → b ≡ true → words ≡ length (loweredWords t) → words ≤ length lent
+    pub lower-done : {b : Bool} {words : ℕ} {after : List ℕ} → k ≡ 0 → b ≡ inLimits t → b ≡ true → words ≡ length (loweredWords t) → words ≤ length lent
         → after ≡ sets lent 0 (loweredWords t) → LowerAnswer t lent 0 0 words after
     unfolding lowerAnswer lentAfter lowerRefusal fitsInto
     lower-done z h b w l done =
-        let room : hasRoom t ≡ true = sym h ∙ b in
-        let fits : hasRoom t && leb (length (loweredWords t)) (length lent) ≡ true = rw (room, le-leb (length (loweredWords t)) (length lent) (omega arith)) in
-        let q : refusedBy t (hasRoom t && leb (length (loweredWords t)) (length lent)) ≡ answer 0 0 = passed-by t e _ z ∙ ap (λ (x : Bool). cond x (answer 0 0) (answer 10 (size t))) fits in
+        let room : inLimits t ≡ true = sym h ∙ b in
+        let fits : inLimits t && leb (length (loweredWords t)) (length lent) ≡ true = rw (room, le-leb (length (loweredWords t)) (length lent) (omega arith)) in
+        let q : refusedBy t (inLimits t && leb (length (loweredWords t)) (length lent)) ≡ answer 0 0 = passed-by t e _ z ∙ ap (λ (x : Bool). cond x (answer 0 0) (answer 10 (size t))) fits in
         record { answer = rw (q, w); lent-words = rw q done }

@@ -81,19 +81,19 @@ pub fn check_table(table: &[u32]) -> table::Checked
 pub struct Lowered {
     pub number: u32,
     pub row: u32,
-    pub length: usize,
+    pub written: usize,
 }
 
 // Lowers a table into the lent words. The room is known before the first word is written.
 pub fn lower(table: &[u32], graph: &mut [u32]) -> Lowered
-    ensures answer { λ r. ⌜ LowerAnswer (now (table .entry)) (now (graph .entry)) (r .number) (r .row) (r .length) (now (graph .exit)) ⌝ }
+    ensures answer { λ r. ⌜ LowerAnswer (now (table .entry)) (now (graph .entry)) (r .number) (r .row) (r .written) (now (graph .exit)) ⌝ }
 {
     let checked = table::check_rows(table);
     if checked.number != 0 {
         return Lowered {
             number: checked.number,
             row: checked.row,
-            length: 0,
+            written: 0,
         };
     }
     let n = (table.len() / 6) as u32;
@@ -106,24 +106,24 @@ pub fn lower(table: &[u32], graph: &mut [u32]) -> Lowered
         return Lowered {
             number: ROOM,
             row: n,
-            length: 0,
+            written: 0,
         };
     }
-    let length = 4
+    let needed = 4
         + 2 * graph::wide(sizes.starts)
         + graph::wide(sizes.results)
         + 7 * graph::wide(sizes.nodes);
-    if graph.len() < length {
+    if graph.len() < needed {
         return Lowered {
             number: ROOM,
             row: n,
-            length: 0,
+            written: 0,
         };
     }
     write_graph(table, &rows, &outs, &uses, &free, sizes, graph);
     Lowered {
         number: 0,
         row: 0,
-        length,
+        written: needed,
     }
 }

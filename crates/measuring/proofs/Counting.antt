@@ -13,7 +13,7 @@ use Rattle.step.specs.Kept.{and-true as both}
 use Rattle.graph.specs.Below.{joined}
 use Rattle.structure.specs.Structure.{Structure}
 use Rattle.lowered.specs.Lower.{plainNodes, plainWires, allUsers, allForkNodes, allForkWires, nodeTotal, wireTotal, startTotal, resultTotal}
-use Rattle.lowered.specs.Room.{hasRoom}
+use Rattle.lowered.specs.Room.{inLimits}
 use Rattle.written.specs.Plain.{Laid, Outs}
 use Rattle.written.specs.Numbers.{useCount}
 use Rattle.forking.specs.Tallied.{Below, tallied-below}
@@ -36,17 +36,17 @@ withForks t = leb (plainNodes t) 4096 && leb (plainWires t) 8192
 
 module _ (t : List ℕ) where
   -- forks only add
-  no-room : withForks t ≡ false → hasRoom t ≡ false
-  unfolding withForks hasRoom nodeTotal wireTotal
+  no-room : withForks t ≡ false → inLimits t ≡ false
+  unfolding withForks inLimits nodeTotal wireTotal
   no-room h = go (decLe (plainNodes t) 4096) (decLe (plainWires t) 8192)
     where
-      go : Dec (plainNodes t ≤ 4096) → Dec (plainWires t ≤ 8192) → hasRoom t ≡ false
+      go : Dec (plainNodes t ≤ 4096) → Dec (plainWires t ≤ 8192) → inLimits t ≡ false
       go (no a) d = rw (lt-leb (plainNodes t + allForkNodes (allUsers t)) 4096 (omega arith))
       go (yes a) (no b) = rw (lt-leb (plainWires t + allForkWires (allUsers t)) 8192 (omega arith)) (and-false (leb (plainNodes t + allForkNodes (allUsers t)) 4096))
       go (yes a) (yes b) = absurd (false≢true (sym h ∙ (rw (le-leb (plainNodes t) 4096 a, le-leb (plainWires t) 8192 b))))
 
-  room : Structure t → leb (nodeTotal t) 4096 && leb (wireTotal t) 8192 ≡ hasRoom t
-  unfolding hasRoom
+  room : Structure t → leb (nodeTotal t) 4096 && leb (wireTotal t) 8192 ≡ inLimits t
+  unfolding inLimits
   room S = rw (le-leb (startTotal t) 512 (starts-few t S), le-leb (resultTotal t) 512 (results-few t S)) (ap (λ (b : Bool). leb (nodeTotal t) 4096 && b) (sym (and-true (leb (wireTotal t) 8192))))
 
 module _ (t : List ℕ) {n w s r : ℕ} (en : n ≡ plainNodes t) (ew : w ≡ plainWires t) (es : s ≡ startTotal t) (er : r ≡ resultTotal t) {b : Bool}

@@ -25,7 +25,7 @@ use Rattle.table.specs.Rows.{size}
 use Rattle.structure.specs.Structure.{Structure}
 use Rattle.lowered.specs.Roles.{result}
 use Rattle.lowered.specs.Lower.{roles, isStart, startRows, isOut, outRows, plainNodes, plainWires, nodeTotal, wireTotal, startTotal, resultTotal}
-use Rattle.lowered.specs.Room.{hasRoom}
+use Rattle.lowered.specs.Room.{inLimits}
 use Rattle.laid.specs.Lists.{has-elem}
 use Rattle.laid.specs.Those.{those-few}
 use Rattle.laid.specs.Indexed.{joined-same, total-same}
@@ -162,7 +162,7 @@ pub record Ready (t rows outs uses free : List ℕ) : Type 0 where
 
 -- what measuring a table answers
 pub record Measured (t rows outs uses free : List ℕ) (P W N A S R : ℕ) (fits : Bool) : Type 0 where
-  pub room : fits ≡ hasRoom t
+  pub room : fits ≡ inLimits t
   pub ready : fits ≡ true → Ready t rows outs uses free × Counted t P W N A S R
 
 module _ (t rows outs uses free : List ℕ) (Y : Ready t rows outs uses free) where

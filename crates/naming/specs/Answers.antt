@@ -14,12 +14,12 @@ use lib.ListN.{length}
 use lib.Seq.{sets}
 use Rattle.table.specs.Check.{Refusal}
 use Rattle.lowered.specs.Lower.{nodeTotal, wireTotal}
-use Rattle.lowered.specs.Room.{hasRoom, refusedBy}
+use Rattle.lowered.specs.Room.{inLimits, refusedBy}
 use Rattle.naming.specs.Names.{nodeNames, wireNames}
 
 -- the counts are in their limits, and the lent words are enough for the names
 unfoldable pub namesFit : List ℕ → ℕ → ℕ → Bool
-namesFit t nodes wires = hasRoom t && (leb (length (nodeNames t)) nodes && leb (length (wireNames t)) wires)
+namesFit t nodes wires = inLimits t && (leb (length (nodeNames t)) nodes && leb (length (wireNames t)) wires)
 
 unfoldable pub nameRefusal : List ℕ → ℕ → ℕ → Refusal
 nameRefusal t nodes wires = refusedBy t (namesFit t nodes wires)

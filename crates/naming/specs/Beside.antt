@@ -27,7 +27,7 @@ use Rattle.lowered.specs.Gathered.{each}
 use Rattle.lowered.specs.Lists.{Among, in-range, none-some, elem-left, elem-right}
 use Rattle.lowered.specs.Roles.{Role, Wire, start, output, Use}
 use Rattle.lowered.specs.Lower.{roles, roleKind, startRows, starts, outputsBy, roleOutputs, wires, users, drainNode, forkNode, forkRows, forkNodes, forkWires, allForkNodes, allForkWires, usersEach, allUsers, plainNodes, plainWires, roleNode, nodesFrom, forksFrom, wireSort, loweredNodes, nodeTotal, wireTotal}
-use Rattle.lowered.specs.Room.{hasRoom, refusedBy, checkAnswer}
+use Rattle.lowered.specs.Room.{inLimits, refusedBy, checkAnswer}
 use Rattle.laid.specs.Indexed.{each-long, each-at}
 use Rattle.measuring.specs.Passed.{and-true}
 use Rattle.naming.specs.Names.{roleName, wireName, forkName, drainName, forkNames, legNames, nodeNames, wireNames}
@@ -365,4 +365,4 @@ refused-as-checked t nodes wires a b =
     let l = names-long t in
     let l0 = l .0 in
     let l1 = l .1 in
-    ap (refusedBy t) (rw (le-leb (length (nodeNames t)) nodes (omega arith), le-leb (length (wireNames t)) wires (omega arith)) (and-true (hasRoom t)))
+    ap (refusedBy t) (rw (le-leb (length (nodeNames t)) nodes (omega arith), le-leb (length (wireNames t)) wires (omega arith)) (and-true (inLimits t)))

@@ -46,8 +46,8 @@ pub data Step : Type 0 where
   on : State → Step
   stop : Outcome → Step
 
-abbrev pub set : ℕ → ℕ → Env → Env
-set r w env x = cond (eqb x r) w (env x)
+abbrev pub setRow : ℕ → ℕ → Env → Env
+setRow r w env x = cond (eqb x r) w (env x)
 
 -- 'b if the flag is 1, c if it is 0'
 abbrev pub choose : ℕ → ℕ → ℕ → ℕ
@@ -125,8 +125,8 @@ endBy unknown t L pc env os = on (at (suc pc) env os)
 abbrev pub rowStep : Row → List ℕ → ℕ → Env → List Opening → Step
 rowStep input t pc env os = on (at (suc pc) env os)
 rowStep (const w) t pc env os = on (at (suc pc) env os)
-rowStep (op c x y) t pc env os = on (at (suc pc) (set pc (operate c (env x) (env y)) env) os)
-rowStep (pick f x y) t pc env os = on (at (suc pc) (set pc (choose (env f) (env x) (env y)) env) os)
+rowStep (op c x y) t pc env os = on (at (suc pc) (setRow pc (operate c (env x) (env y)) env) os)
+rowStep (pick f x y) t pc env os = on (at (suc pc) (setRow pc (choose (env f) (env x) (env y)) env) os)
 rowStep (for s st b u c) t pc env os = forStep t pc (env s) env os (env st) (condition c (env s) (env b))
 rowStep (arg i) t pc env os = on (at (suc pc) env os)
 rowStep (next v) t pc env os = on (at (suc pc) env os)

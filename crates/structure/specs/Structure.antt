@@ -30,7 +30,7 @@ pub record InLoop (t : List ℕ) (L r : ℕ) : Type 0 where
 pub record Structure (t : List ℕ) : Type 0 where
   -- the words
   pub words : length t ≡ 6 * size t
-  pub some : 1 ≤ size t
+  pub any : 1 ≤ size t
   pub few : size t ≤ 512
   pub kinds : (r : ℕ) → r < size t → kindOf t r ≤ 8
   pub op-codes : (r : ℕ) → r < size t → kindOf t r ≡ 2 → word t r 1 ≤ 7
@@ -134,7 +134,7 @@ module _ (t : List ℕ) (ok : TableRight t) where
   right-table-has-structure =
       record {
         words = words-of-rows t ok;
-        some = some-rows t ok;
+        any = some-rows t ok;
         few = at-most-512-rows t ok;
         kinds = known-kind t ok;
         op-codes = op-code t ok;

@@ -27,7 +27,7 @@ use Rattle.state.specs.Net.{Net}
 use Rattle.confluence.specs.Histories.{putOn, puts}
 use Rattle.lowered.specs.Lists.{Among, Once}
 use Rattle.lowered.specs.Roles.{Role, sameRole, Wire, start, output, Use, into, result}
-use Rattle.uses.specs.Machine.{Plan, State, giveBy, takeBy, nextBy, put, drop, listed, given, taken, viewOf, after, one, one-same, one-other, Ready, Steps}
+use Rattle.uses.specs.Machine.{Plan, State, giveBy, takeBy, nextBy, put, unlessTaken, listed, given, taken, viewOf, after, one, one-same, one-other, Ready, Steps}
 use Rattle.uses.specs.Wires.{Tokens, vacant, inTok, hasSpace, clearTok, fillTok, recBy, view2, fire2, Steps2, steps2-append, puts2, puts2-append, puts2-both, Spread, below, nodes, OneOf, Spreads, uses-in, spread}
 
 not-both : {A : Type 0} (o : Option ℕ) (y : ℕ) → o ≡ none → o ≡ some y → A
@@ -140,7 +140,7 @@ module _ (plan : Plan) (net : Net) (y : Layout plan net) where
   clear-no (some u) false x t h = refl
   clear-no (some u) true x t h = rw (ne-eqb u x (h u refl refl))
 
-  clear-yes : (o : Option ℕ) (b : Bool) (x : ℕ) (t : Option ℕ) → o ≡ some x → clearTok o b x t ≡ drop b t
+  clear-yes : (o : Option ℕ) (b : Bool) (x : ℕ) (t : Option ℕ) → o ≡ some x → clearTok o b x t ≡ unlessTaken b t
   clear-yes o true x t a = rw (a, eq-eqb x x refl)
   clear-yes o false x t a = rw a
 
@@ -250,11 +250,11 @@ module _ (plan : Plan) (net : Net) (y : Layout plan net) where
         let d : into n j ≡ into n k = y .pw-inj (into n j) (into n k) (r .0) w (r .1) h (r .2 ∙ c) in
         ne (cc))
 
-    clear-own : (k : Input) (b : Bool) (w : Wire) (t : Option ℕ) → plan .source (into n k) ≡ some w → clearTok (net .input i k) b (y .pw (into n k)) t ≡ drop b t
+    clear-own : (k : Input) (b : Bool) (w : Wire) (t : Option ℕ) → plan .source (into n k) ≡ some w → clearTok (net .input i k) b (y .pw (into n k)) t ≡ unlessTaken b t
     unfolding i
     clear-own k b w t h = clear-yes (net .input i k) b (y .pw (into n k)) t (y .ins n rl k ∙ ap (λ (z : Option Wire). wireIf z (y .pw (into n k))) h)
 
-    clear-use : (k : Input) (w : Wire) → plan .source (into n k) ≡ some w → cleared (y .pw (into n k)) ≡ drop (takes e k) (Z .wt (y .pw (into n k)))
+    clear-use : (k : Input) (w : Wire) → plan .source (into n k) ≡ some w → cleared (y .pw (into n k)) ≡ unlessTaken (takes e k) (Z .wt (y .pw (into n k)))
     clear-use in0 w h =
         clear-other in2 in0 (e .takes2) w (clearTok (net .input i in1) (e .takes1) (y .pw (into n in0)) (clearTok (net .input i in0) (e .takes0) (y .pw (into n in0)) (Z .wt (y .pw (into n in0))))) h (λ c. let z : _≡_ {A = ℕ} 0 1 = cc in omega arith)
         ∙ clear-other in1 in0 (e .takes1) w (clearTok (net .input i in0) (e .takes0) (y .pw (into n in0)) (Z .wt (y .pw (into n in0)))) h (λ c. let z : _≡_ {A = ℕ} 0 1 = cc in omega arith)
@@ -262,10 +262,10 @@ module _ (plan : Plan) (net : Net) (y : Layout plan net) where
     clear-use in1 w h =
         clear-other in2 in1 (e .takes2) w (clearTok (net .input i in1) (e .takes1) (y .pw (into n in1)) (clearTok (net .input i in0) (e .takes0) (y .pw (into n in1)) (Z .wt (y .pw (into n in1))))) h (λ c. let z : _≡_ {A = ℕ} 0 1 = cc in omega arith)
         ∙ clear-own in1 (e .takes1) w (clearTok (net .input i in0) (e .takes0) (y .pw (into n in1)) (Z .wt (y .pw (into n in1)))) h
-        ∙ ap (drop (e .takes1)) (clear-other in0 in1 (e .takes0) w (Z .wt (y .pw (into n in1))) h (λ c. let z : _≡_ {A = ℕ} 0 1 = cc in omega arith))
+        ∙ ap (unlessTaken (e .takes1)) (clear-other in0 in1 (e .takes0) w (Z .wt (y .pw (into n in1))) h (λ c. let z : _≡_ {A = ℕ} 0 1 = cc in omega arith))
     clear-use in2 w h =
         clear-own in2 (e .takes2) w (clearTok (net .input i in1) (e .takes1) (y .pw (into n in2)) (clearTok (net .input i in0) (e .takes0) (y .pw (into n in2)) (Z .wt (y .pw (into n in2))))) h
-        ∙ ap (drop (e .takes2)) (clear-other in1 in2 (e .takes1) w (clearTok (net .input i in0) (e .takes0) (y .pw (into n in2)) (Z .wt (y .pw (into n in2)))) h (λ c. let z : _≡_ {A = ℕ} 0 1 = cc in omega arith)
+        ∙ ap (unlessTaken (e .takes2)) (clear-other in1 in2 (e .takes1) w (clearTok (net .input i in0) (e .takes0) (y .pw (into n in2)) (Z .wt (y .pw (into n in2)))) h (λ c. let z : _≡_ {A = ℕ} 0 1 = cc in omega arith)
         ∙ clear-other in0 in2 (e .takes0) w (Z .wt (y .pw (into n in2))) h (λ c. let z : _≡_ {A = ℕ} 0 1 = cc in omega arith))
 
     -- a taken use is full, so it stands in no tree that is given
@@ -358,7 +358,7 @@ module _ (plan : Plan) (net : Net) (y : Layout plan net) where
     given-at : (w : Wire) (o : Output) → w ≡ output n o → given (one n e) (some w) ≡ gives e o
     given-at w o h = ap (λ (u : Wire). given (one n e) (some u)) h ∙ ap (λ (r : Option Effect). giveBy r o) (one-same n e)
 
-    drop-none : (b : Bool) → drop b none ≡ none
+    drop-none : (b : Bool) → unlessTaken b none ≡ none
     drop-none true = refl
     drop-none false = refl
 
@@ -380,7 +380,7 @@ module _ (plan : Plan) (net : Net) (y : Layout plan net) where
           let d : w ≡ output n o = y .tree-apart w (output n o) m (made o z h) x t u in
           not-both (given (one n e) (some w)) z q (given-at w o d ∙ h)
 
-      toks : (p : Use) (w : Wire) → plan .source p ≡ some w → given (one n e) (some w) ≡ none → cleared (y .pw p) ≡ drop (taken (one n e) p) (s .tok p)
+      toks : (p : Use) (w : Wire) → plan .source p ≡ some w → given (one n e) (some w) ≡ none → cleared (y .pw p) ≡ unlessTaken (taken (one n e) p) (s .tok p)
       toks (result q) w h k =
           clear-else (y .pw (result q)) (λ j u r t c. let d : into n j ≡ result q = y .pw-inj (into n j) (result q) u w r h c in let z : _≡_ {A = ℕ} 0 1 = cc in omega arith)
           ∙ R .at-use (result q) w h
@@ -388,29 +388,29 @@ module _ (plan : Plan) (net : Net) (y : Layout plan net) where
           elim (sameRole m n) [
             | yes d ↦
                 let h′ : plan .source (into n k) ≡ some w = ap (λ (r : Role). plan .source (into r k)) (sym d) ∙ h in
-                ap (λ (r : Role). cleared (y .pw (into r k))) d ∙ clear-use k w h′ ∙ ap (drop (takes e k)) (R .at-use (into n k) w h′)
-                ∙ sym (ap (λ (r : Role). drop (takeBy (one n e r) k) (s .tok (into r k))) d ∙ ap (λ (r : Option Effect). drop (takeBy r k) (s .tok (into n k))) (one-same n e))
+                ap (λ (r : Role). cleared (y .pw (into r k))) d ∙ clear-use k w h′ ∙ ap (unlessTaken (takes e k)) (R .at-use (into n k) w h′)
+                ∙ sym (ap (λ (r : Role). unlessTaken (takeBy (one n e r) k) (s .tok (into r k))) d ∙ ap (λ (r : Option Effect). unlessTaken (takeBy r k) (s .tok (into n k))) (one-same n e))
             | no d ↦
                 clear-else (y .pw (into m k)) (λ j u r t c. let x : into n j ≡ into m k = y .pw-inj (into n j) (into m k) u w r h c in let x′ : n ≡ m = cc in d (sym x′))
-                ∙ R .at-use (into m k) w h ∙ sym (ap (λ (r : Option Effect). drop (takeBy r k) (s .tok (into m k))) (one-other n m e d))
+                ∙ R .at-use (into m k) w h ∙ sym (ap (λ (r : Option Effect). unlessTaken (takeBy r k) (s .tok (into m k))) (one-other n m e d))
           ]
 
       uses3 : (p : Use) (w : Wire) → plan .source p ≡ some w → B .wt (y .pw p) ≡ after plan (one n e) s .tok p
       uses3 p w h =
           go (given (one n e) (some w)) refl
-          ∙ sym (ap (λ (u : Option Wire). put (given (one n e) u) (drop (taken (one n e) p) (s .tok p))) h)
+          ∙ sym (ap (λ (u : Option Wire). put (given (one n e) u) (unlessTaken (taken (one n e) p) (s .tok p))) h)
         where
           uf : Among p (y .users w) × Made plan w
           uf = y .users-full p w h
 
-          go : (r : Option ℕ) → given (one n e) (some w) ≡ r → B .wt (y .pw p) ≡ put (given (one n e) (some w)) (drop (taken (one n e) p) (s .tok p))
+          go : (r : Option ℕ) → given (one n e) (some w) ≡ r → B .wt (y .pw p) ≡ put (given (one n e) (some w)) (unlessTaken (taken (one n e) p) (s .tok p))
           go none q =
               same2 (y .pw p) (not-given w (uf .1) (y .pw p) (use-in-tree p w h) q) ∙ toks p w h q
-              ∙ sym (ap (λ (u : Option ℕ). put u (drop (taken (one n e) p) (s .tok p))) q)
+              ∙ sym (ap (λ (u : Option ℕ). put u (unlessTaken (taken (one n e) p) (s .tok p))) q)
           go (some z) q =
               let c = given-cases w z q in
               hit2 (c .0) z (c .2) (y .pw p) (subst (λ (u : Wire). UseOf (y .pw p) u) (c .1) (among-use p (y .users w) (uf .0)))
-              ∙ sym (ap (λ (u : Option ℕ). put u (drop (taken (one n e) p) (s .tok p))) q)
+              ∙ sym (ap (λ (u : Option ℕ). put u (unlessTaken (taken (one n e) p) (s .tok p))) q)
 
       between3 : (w : Wire) → Made plan w → (x : ℕ) → Tree x w → (UseOf x w → ⊥) → B .wt x ≡ none
       between3 w m x t k = go (given (one n e) (some w)) refl
@@ -434,8 +434,8 @@ module _ (plan : Plan) (net : Net) (y : Layout plan net) where
             between = between3;
             at-node = λ m rm. b .recs (y .num m) ∙ a .recs (y .num m) ∙ rec1 m rm;
             at-fork = λ w m j h. b .recs j ∙ a .recs j ∙ fork1 w m j h;
-            nowhere = λ p h. ap (λ (u : Option Wire). put (given (one n e) u) (drop (taken (one n e) p) (s .tok p))) h
-                ∙ ap (drop (taken (one n e) p)) (R .nowhere p h) ∙ drop-none (taken (one n e) p);
+            nowhere = λ p h. ap (λ (u : Option Wire). put (given (one n e) u) (unlessTaken (taken (one n e) p) (s .tok p))) h
+                ∙ ap (unlessTaken (taken (one n e) p)) (R .nowhere p h) ∙ drop-none (taken (one n e) p);
           }
 
     -- the words that the node puts on a root

@@ -54,9 +54,9 @@ abbrev pub put : Option ℕ → Option ℕ → Option ℕ
 put none t = t
 put (some x) t = some x
 
-abbrev pub drop : Bool → Option ℕ → Option ℕ
-drop true t = none
-drop false t = t
+abbrev pub unlessTaken : Bool → Option ℕ → Option ℕ
+unlessTaken true t = none
+unlessTaken false t = t
 
 abbrev pub listed : Option ℕ → List ℕ
 listed none = []
@@ -91,7 +91,7 @@ module _ (plan : Plan) where
   abbrev pub after : (Role → Option Effect) → State → State
   after E s =
       record {
-        tok = λ p. put (given E (plan .source p)) (drop (taken E p) (s .tok p));
+        tok = λ p. put (given E (plan .source p)) (unlessTaken (taken E p) (s .tok p));
         own = λ n. nextBy (E n) (s .own n);
         hist = λ n o. s .hist n o ++ listed (giveBy (E n) o);
       }
@@ -188,7 +188,7 @@ module _ (plan : Plan) where
   -- the words of one use
   combine : (gl g1 g : Option ℕ) (tl t1 t : Bool) (x : Option ℕ)
       → ((gl ≡ none) × (g1 ≡ g)) ⊎ ((g1 ≡ none) × (gl ≡ g)) → ((tl ≡ false) × (t1 ≡ t)) ⊎ ((t1 ≡ false) × (tl ≡ t))
-      → ((y : ℕ) → g1 ≡ some y → t ≡ true → ⊥) → put gl (drop tl (put g1 (drop t1 x))) ≡ put g (drop t x)
+      → ((y : ℕ) → g1 ≡ some y → t ≡ true → ⊥) → put gl (unlessTaken tl (put g1 (unlessTaken t1 x))) ≡ put g (unlessTaken t x)
   combine gl g1 g tl t1 t x (inl a) (inl b) h = rw (a .0, a .1, b .0, b .1)
   combine gl g1 none tl t1 t x (inl a) (inr b) h = rw (a .0, a .1, b .0, b .1)
   combine gl g1 (some y) tl t1 true x (inl a) (inr b) h = absurd (h y (a .1) refl)
@@ -253,7 +253,7 @@ module _ (plan : Plan) where
   put-none none t h = refl
   put-none (some y) t h = absurd (h y refl)
 
-  drop-none : (b : Bool) → drop b none ≡ none
+  drop-none : (b : Bool) → unlessTaken b none ≡ none
   drop-none true = refl
   drop-none false = refl
 
@@ -269,7 +269,7 @@ module _ (plan : Plan) where
     where
       kept : (k : Input) → takes f k ≡ true → after plan (one n e) s .tok (into m k) ≡ s .tok (into m k)
       kept k t =
-          ap (λ (z : Option Effect). put (given (one n e) (plan .source (into m k))) (drop (takeBy z k) (s .tok (into m k)))) (one-other n m e d)
+          ap (λ (z : Option Effect). put (given (one n e) (plan .source (into m k))) (unlessTaken (takeBy z k) (s .tok (into m k)))) (one-other n m e d)
           ∙ put-none (given (one n e) (plan .source (into m k))) (s .tok (into m k))
           (λ y u. no-clash n e E s (rs n e q) rs (into m k) y u (ap (λ (z : Option Effect). takeBy z k) h ∙ t))
 
@@ -284,9 +284,9 @@ module _ (plan : Plan) where
 
       emptied : (p : Use) (o : Output) (x : ℕ) → plan .source p ≡ some (output m o) → gives f o ≡ some x → after plan (one n e) s .tok p ≡ none
       emptied p o x a b =
-          ap (λ (z : Option Wire). put (given (one n e) z) (drop (taken (one n e) p) (s .tok p))) a
-          ∙ ap (λ (z : Option Effect). put (giveBy z o) (drop (taken (one n e) p) (s .tok p))) (one-other n m e d)
-          ∙ ap (drop (taken (one n e) p)) (rs m f h .room p o x a b) ∙ drop-none (taken (one n e) p)
+          ap (λ (z : Option Wire). put (given (one n e) z) (unlessTaken (taken (one n e) p) (s .tok p))) a
+          ∙ ap (λ (z : Option Effect). put (giveBy z o) (unlessTaken (taken (one n e) p) (s .tok p))) (one-other n m e d)
+          ∙ ap (unlessTaken (taken (one n e) p)) (rs m f h .room p o x a b) ∙ drop-none (taken (one n e) p)
 
   nothing : (E : Role → Option Effect) (s : State) → ((n : Role) → E n ≡ none) → s ≡ after plan E s
   nothing E s h = sym (state-eq (after plan E s) s (λ p. toks p (plan .source p)) (λ n. ap (λ (z : Option Effect). nextBy z (s .own n)) (h n))
@@ -301,7 +301,7 @@ module _ (plan : Plan) where
       gave (some (start v)) = refl
       gave (some (output n o)) = ap (λ (z : Option Effect). giveBy z o) (h n)
 
-      toks : (p : Use) (w : Option Wire) → put (given E w) (drop (taken E p) (s .tok p)) ≡ s .tok p
+      toks : (p : Use) (w : Option Wire) → put (given E w) (unlessTaken (taken E p) (s .tok p)) ≡ s .tok p
       toks p w = rw (gave w, took p)
 
   -- THE STAGE LEMMA

@@ -29,26 +29,26 @@ returns-2 c = lower-crowded (c .before .before .before .before .before .before .
 wide-requires : tie.Need-wide-requires
 wide-requires c κs = search needs
 
-mul-length : tie.Need-mul-length
-mul-length c = search needs
+mul-needed : tie.Need-mul-needed
+mul-needed c = search needs
 
-add-length : tie.Need-add-length
-add-length c = search needs
+add-needed : tie.Need-add-needed
+add-needed c = search needs
 
 wide-requires-2 : tie.Need-wide-requires-2
 wide-requires-2 c κs = search needs
 
-add-length-2 : tie.Need-add-length-2
-add-length-2 c = search needs
+add-needed-2 : tie.Need-add-needed-2
+add-needed-2 c = search needs
 
 wide-requires-3 : tie.Need-wide-requires-3
 wide-requires-3 c κs = search needs
 
-mul-length-2 : tie.Need-mul-length-2
-mul-length-2 c = search needs
+mul-needed-2 : tie.Need-mul-needed-2
+mul-needed-2 c = search needs
 
-add-length-3 : tie.Need-add-length-3
-add-length-3 c = search needs
+add-needed-3 : tie.Need-add-needed-3
+add-needed-3 c = search needs
 
 returns-3 : tie.Need-returns-3
 returns-3 c = let t = c .before .before .before .before .before .before .before .before .before .before .before .before .before .before .before .before .args .table .now in let q = c .before .before .before .before .before .before .measure .ensures .ready (on _ (c .before .before .before .before .if2 .left)) in
@@ -75,13 +75,13 @@ lower-spec =
     measure-requires
     returns-2
     wide-requires
-    mul-length
-    add-length
+    mul-needed
+    add-needed
     wide-requires-2
-    add-length-2
+    add-needed-2
     wide-requires-3
-    mul-length-2
-    add-length-3
+    mul-needed-2
+    add-needed-3
     returns-3
     write-graph-requires
     same-length
