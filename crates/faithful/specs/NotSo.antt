@@ -12,9 +12,8 @@
 -- Assumes nothing.
 use mathlib.Core.Path.{_≡_, refl, sym, ap, _∙_, subst}
 use mathlib.Core.Bool.{true}
-use mathlib.Core.Option.{some}
 use mathlib.Core.List.{List, [], _∷_, _++_}
-use Prim.Native.Nat.{ℕ, zero, suc, _+_, _<_}
+use Prim.Native.Nat.{ℕ, zero, suc, _<_}
 use native.Mathlib.Omega.{arith}
 use lib.ListN.{length, replicate, length-append}
 use Rattle.word.specs.Words.{condition, update, operate}
@@ -22,7 +21,6 @@ use Rattle.step.specs.Kinds
 use Rattle.step.specs.Machines
 use Rattle.graph.specs.Below.{everyFrom, total, joined, times}
 use Rattle.graph.specs.Graph.{absent, nodeAt, rowAt}
-use Rattle.graph.specs.Refusal.{graphRefusal}
 use Rattle.state.specs.Net.{fire, netOf}
 use Rattle.state.specs.Load.{loaded, startWord}
 use Rattle.state.specs.Run.{Outcome, ZERO-STEP, SPENT, turn, follow, sweepFrom, sweeps, finish, run, anyReady, complete, resultsFull, othersEmpty, phasesZero, zeroStepAt, firstFrom, outcome}

@@ -9,10 +9,10 @@
 --
 -- Assumes nothing.
 use mathlib.Core.Path.{_≡_, refl, sym, ap, _∙_, subst}
-use mathlib.Core.Logic.{_⊎_, inl, inr}
-use mathlib.Core.Bool.{Bool, true, _&&_}
+use mathlib.Core.Logic.{inl, inr}
+use mathlib.Core.Bool.{true}
 use mathlib.Core.Option.{none, some}
-use Prim.Native.Nat.{ℕ, suc, _≤_, _<_}
+use Prim.Native.Nat.{ℕ, _≤_, _<_}
 use native.Mathlib.Omega.{arith}
 use native.Mathlib.Decide.{decLt, decLe}
 use borrow.Author.Tests.{eqb-true}
@@ -20,10 +20,9 @@ use lib.Dec.{eqb}
 use Rattle.step.specs.Kinds.{Input}
 use Rattle.step.specs.Kept.{and-true}
 use Rattle.step.specs.Machines.{rest}
-use Rattle.table.specs.Bodies.{for, arg, next}
-use Rattle.lowered.specs.Roles.{Role, opNode, stream, gate, guard, copySplit, copyInvariant, carry, argSplit, Wire, start, output, into, result}
+use Rattle.lowered.specs.Roles.{Role, opNode, stream, gate, guard, copySplit, copyInvariant, carry, argSplit, Wire, start, output, into}
 use Rattle.uses.specs.Machine.{State}
-use Rattle.faithful.specs.Table.{Table, val, inner, IsFor, wireOf, slot, src, isArg, Real}
+use Rattle.faithful.specs.Table.{Table, val, IsFor, wireOf, slot, src, isArg, Real}
 use Rattle.faithful.specs.Members.{inLoop}
 use Rattle.faithful.specs.Good.{Good, Source, fromStart, fromOp, fromFor, fromArg, fromNext, fromCopy, source, When, byOp, byFor, byEnd, byOut, when, inward}
 use Rattle.faithful.specs.Gamma.{Env, Inside, scope, held, Gamma}

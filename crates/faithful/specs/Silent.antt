@@ -10,12 +10,12 @@
 --
 -- The idea. A dead node takes only from dead nodes and from starts, so none is the first to fire again.
 -- Assumes nothing.
-use mathlib.Core.Path.{_≡_, refl, sym, ap, ap₂, _∙_, subst}
+use mathlib.Core.Path.{_≡_, refl, sym, ap, _∙_, subst}
 use mathlib.Core.Logic.{_≢_, _⊎_, inl, inr}
-use mathlib.Core.Bool.{Bool, true, false, _&&_}
+use mathlib.Core.Bool.{Bool, true, false}
 use mathlib.Core.Option.{Option, none, some}
 use mathlib.Core.List.{List, [], _∷_}
-use Prim.Native.Nat.{ℕ, zero, suc, _+_, _≤_, _<_}
+use Prim.Native.Nat.{ℕ, _+_, _≤_, _<_}
 use native.Mathlib.Omega.{arith}
 use native.Mathlib.Decide.{decLt}
 use borrow.Author.Tests.{ne-eqb}
@@ -25,13 +25,12 @@ use Rattle.step.specs.Kinds.{Input, in0, in1, in2, Output, out0, out1}
 use Rattle.step.specs.Firing.{Effect}
 use Rattle.step.specs.Machines.{rest}
 use Rattle.step.specs.Kept.{and-true}
-use Rattle.step.specs.declared.Record.{Record}
-use Rattle.graph.specs.Graph.{nodeCount, startCount, inputAt, nodeAt, wireCount}
+use Rattle.graph.specs.Graph.{nodeCount, inputAt, nodeAt, wireCount}
 use Rattle.graph.specs.Refusal.{graphRefusal}
 use Rattle.graph.specs.Accepted.{accepted, node-in-range}
 use Rattle.graph.specs.Wiring.{start-unwritten}
 use Rattle.state.specs.State.{wordPlace, token, tokenOn, recordAt}
-use Rattle.state.specs.Net.{Net, netOf, effectAt, fire}
+use Rattle.state.specs.Net.{Net, netOf, fire}
 use Rattle.state.specs.Load.{loaded}
 use Rattle.state.specs.Run.{isStream, holdsToken, zeroStepAt}
 use Rattle.confluence.specs.Orders.{fires-first, fires-end}
@@ -48,8 +47,8 @@ use Rattle.laid.specs.Rowwise.{nodes-before}
 use Rattle.laid.specs.Words.{start-count}
 use Rattle.uses.specs.Machine.{State}
 use Rattle.uses.specs.Wires
-use Rattle.uses.specs.Wires.{Tokens, inTok, clearTok, fillTok, recBy, view2, fire2, IsFork, Spread, drained, alone, forked, below, nodes, OneOf}
-use Rattle.uses.specs.Layout.{Layout, Made, Tree, Shown, wireIf, use-in-tree, dec-use, use-found, among-use}
+use Rattle.uses.specs.Wires.{Tokens, inTok, clearTok, fillTok, recBy, view2, fire2, Spread, drained, alone, forked, below, nodes, OneOf}
+use Rattle.uses.specs.Layout.{Layout, Made, Tree, wireIf, use-in-tree, dec-use, use-found, among-use}
 use Rattle.uses.specs.Flat
 use Rattle.uses.specs.Flat.{Rep, view-is, flat-fire}
 use Rattle.faithful.specs.Table.{Table, IsFor, src, Real, plan}

@@ -5,7 +5,7 @@
 --
 -- Assumes nothing.
 use Prim.Native.Nat.{ℕ, zero, suc, _+_, _-_, _≤_, _<_}
-use mathlib.Core.Path.{_≡_, refl, sym, ap, _∙_}
+use mathlib.Core.Path.{_≡_, sym, ap, _∙_}
 use mathlib.Core.Logic.{inl, inr}
 use mathlib.Core.List.{List, _∷_, _++_}
 use mathlib.Core.Option.{some}
@@ -13,7 +13,7 @@ use native.Mathlib.Omega.{arith}
 use native.Mathlib.Decide.{decLt}
 use lib.ListN.{length, getElem?, length-append}
 use Rattle.table.specs.Rows.{kindOf, size}
-use Rattle.lowered.specs.Gathered.{gathered, each, position}
+use Rattle.lowered.specs.Gathered.{gathered, position}
 use Rattle.lowered.specs.Roles.{Role, stream, sameRole}
 use Rattle.lowered.specs.Lower.{rowRoles, roles}
 use Rattle.laid.specs.Lists.{Among, none-some, below-or-last, there, has-elem, elem-left, elem-right, at-position, position-is}
