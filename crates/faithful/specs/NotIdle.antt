@@ -19,9 +19,9 @@ use Rattle.graph.specs.Graph.{resultAt}
 use Rattle.state.specs.State.{tokenAt}
 use Rattle.state.specs.Run.{COMPLETE, ZERO-STEP, outcome}
 use Rattle.confluence.specs.Statements.{Fires, AtRest, putOnWire}
-use Rattle.table.specs.Rows.{size, usedWords, operandCount, firstOperand, sortOf, wantedSort}
+use Rattle.table.specs.Rows.{size, fieldAt, usedWords, operandCount, firstOperand, sortOf, wantedSort}
 use Rattle.table.specs.Scan.{after, stackAt, bodyOf, readStack, reads, homeBy, home, bodyOpen, endPassed, visible}
-use Rattle.table.specs.Check.{Refusal, answer, tableRefusal, lengthRight, kindRight, zerosFrom, spareRight, codeRight, follows, stands, placeRight, depthRight, namesFrom, namesRight, typesFrom, typesRight, endRight, rowRefusal, rowsFrom}
+use Rattle.table.specs.Check.{Refusal, answer, tableRefusal, lengthRight, kindRight, zerosFrom, spareRight, codesFrom, codeRight, follows, stands, placeRight, depthRight, namesFrom, namesRight, typesFrom, typesRight, endRight, rowRefusal, rowsFrom}
 use Rattle.table.specs.Bodies.{rowBy, rowAt, ends, endFrom, endOf, argsFrom, argsOf, firstOf, isArg, isNext, argOf, nextOf}
 use Rattle.table.specs.Cases.{const, loop, arg, next, close, out, sumTable, sumBy, p12Table, sum-passes, p12-passes}
 use Rattle.reading.specs.Reading.{Env, Opening, at, nextNamed, oneTurn, endStep, inputsBelow, firstWords, begin, turn, step, andThen, readFrom, read}
@@ -82,7 +82,7 @@ the-inner-loop-opens-anew order u f h =
 
 -- the sum table with step 0
 zero-passes : tableRefusal (sumBy 0) ≡ answer 0 0
-unfolding usedWords operandCount firstOperand sortOf wantedSort after stackAt bodyOf readStack reads homeBy home bodyOpen endPassed visible lengthRight kindRight zerosFrom spareRight codeRight follows stands placeRight depthRight namesFrom namesRight typesFrom typesRight endRight rowRefusal rowsFrom tableRefusal
+unfolding usedWords operandCount firstOperand sortOf wantedSort after stackAt bodyOf readStack reads homeBy home bodyOpen endPassed visible lengthRight kindRight zerosFrom spareRight fieldAt codesFrom codeRight follows stands placeRight depthRight namesFrom namesRight typesFrom typesRight endRight rowRefusal rowsFrom tableRefusal
 zero-passes = refl
 
 zero-has-room : hasRoom (sumBy 0) ≡ true
@@ -103,7 +103,7 @@ abbrev pub stayTable : List ℕ
 stayTable = const 0 (const 1 (loop 0 1 0 2 1 (arg 0 (next 3 (close (out 4))))))
 
 stay-passes : tableRefusal stayTable ≡ answer 0 0
-unfolding usedWords operandCount firstOperand sortOf wantedSort after stackAt bodyOf readStack reads homeBy home bodyOpen endPassed visible lengthRight kindRight zerosFrom spareRight codeRight follows stands placeRight depthRight namesFrom namesRight typesFrom typesRight endRight rowRefusal rowsFrom tableRefusal
+unfolding usedWords operandCount firstOperand sortOf wantedSort after stackAt bodyOf readStack reads homeBy home bodyOpen endPassed visible lengthRight kindRight zerosFrom spareRight fieldAt codesFrom codeRight follows stands placeRight depthRight namesFrom namesRight typesFrom typesRight endRight rowRefusal rowsFrom tableRefusal
 stay-passes = refl
 
 stay-has-room : hasRoom stayTable ≡ true
