@@ -1,4 +1,4 @@
--- A value's sort, and its wire at home by noted outputs, kind by kind. Assumes nothing.
+-- A value's wire at home by noted outputs, kind by kind. Assumes nothing.
 use Prim.Native.Nat.{ℕ, _+_, _≤_, _<_}
 use mathlib.Core.Path.{_≡_, sym, ap, _∙_}
 use mathlib.Core.Logic.{_≢_}
@@ -6,25 +6,13 @@ use mathlib.Core.List.{List}
 use native.Mathlib.Omega.{arith}
 use borrow.Author.Tests.{le-leb, lt-leb, eq-eqb, ne-eqb}
 use lib.ListN.{getD}
-use Rattle.table.specs.Rows.{kindOf, word, size, sortOf}
+use Rattle.table.specs.Rows.{kindOf, size}
 use Rattle.table.specs.Bodies.{argOf}
 use Rattle.structure.specs.Structure.{Structure, right-table-has-structure}
 use Rattle.laid.specs.Reached.{in-table}
 use Rattle.carrying.specs.Kept.{Passing, Pairs, homeFrom}
 
 module _ (t : List ℕ) (v k : ℕ) (e : k ≡ kindOf t v) where
-  pub flag-sort : (w : ℕ) → k ≡ 2 → w ≡ word t v 1 → 3 ≤ w → 1 ≡ sortOf t v
-  unfolding sortOf
-  flag-sort w h d l = rw (eq-eqb (kindOf t v) 2 (sym e ∙ h), le-leb 3 (word t v 1) (omega arith))
-
-  pub word-sort : (w : ℕ) → k ≡ 2 → w ≡ word t v 1 → w < 3 → 0 ≡ sortOf t v
-  unfolding sortOf
-  word-sort w h d l = rw (eq-eqb (kindOf t v) 2 (sym e ∙ h), lt-leb 3 (word t v 1) (omega arith))
-
-  pub other-sort : k ≢ 2 → 0 ≡ sortOf t v
-  unfolding sortOf
-  other-sort h = rw (ne-eqb (kindOf t v) 2 (λ z. h (e ∙ z)))
-
   module _ (wires : List ℕ) where
     pub start-home : k ≤ 1 → v ≡ homeFrom t wires v
     unfolding homeFrom

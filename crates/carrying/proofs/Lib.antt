@@ -1,5 +1,4 @@
 -- The laws that the proofs of the functions cite.
-pub mod Rows
 pub mod Scanning
 pub mod Homes
 pub mod Counting

@@ -2,31 +2,15 @@
 use Prim.Native.Nat.{ℕ, suc, _+_, _*_, _≤_, _<_}
 use mathlib.Core.Path.{_≡_, sym, ap, _∙_, subst}
 use mathlib.Core.Logic.{_≢_, inl, inr}
-use mathlib.Core.Bool.{Bool, true, false, cond}
 use mathlib.Core.List.{List}
 use native.Mathlib.Omega.{arith}
 use native.Mathlib.Decide.{ℕ-discrete}
-use lib.Dec.{eqb}
 use lib.ListN.{length, getD, set, length-set}
 use lib.Seq.{getD-set-same, getD-set-other}
-use Rattle.table.specs.Rows.{kindOf, size, operandCount}
+use Rattle.table.specs.Rows.{kindOf, size, operandCount, at-most-three}
 use Rattle.table.specs.Bodies.{operand}
 use Rattle.structure.specs.Structure.{Structure, right-table-has-structure}
 use Rattle.carrying.specs.Kept.{Passing, IsUse, UseOrNone, Uses}
-
--- a row names at most three values
-pub at-most-three : (k : ℕ) → operandCount k ≤ 3
-unfolding operandCount
-at-most-three k = two (eqb k 2) (eqb k 3) (eqb k 4) (eqb k 5) (eqb k 6) (eqb k 8)
-  where
-    two : (a b c d e f : Bool) → cond a 2 (cond b 3 (cond c 3 (cond d 1 (cond e 1 (cond f 1 0))))) ≤ 3
-    two true b c d e f = omega arith
-    two false true c d e f = omega arith
-    two false false true d e f = omega arith
-    two false false false true e f = omega arith
-    two false false false false true f = omega arith
-    two false false false false false true = omega arith
-    two false false false false false false = omega arith
 
 module _ (t : List ℕ) (n : ℕ) (p : Passing t n) where
   abbrev S : Structure t

@@ -4,8 +4,8 @@ ghost use Prim.Native.Nat.{ℕ, _+_, _*_, _<_, _≤_};
 ghost use lib.Dec.{eqb, leb};
 ghost use lib.ListN.{length, getD};
 ghost use Rattle.word.specs.Words.{flag};
-ghost use Rattle.table.specs.Rows.{kindOf, word, size, operandCount, firstOperand, sortOf};
-ghost use Rattle.table.specs.Bodies.{operand, argOf};
+ghost use Rattle.table.specs.Rows.{kindOf, size};
+ghost use Rattle.table.specs.Bodies.{argOf};
 ghost use Rattle.table.specs.Scan.{bodyOf, home, reads};
 ghost use Rattle.lowered.specs.Lower.{startTotal, resultTotal, plainNodes, plainWires};
 ghost use Rattle.laid.specs.Bases.{nodeBase, wireBase};
@@ -28,67 +28,6 @@ const END: u32 = 7;
 
 const OUT: u32 = 8;
 
-// The first code of an operator that gives a flag.
-const CONDITIONS: u32 = 3;
-
-pub fn kind_at(table: &[u32], r: u32) -> u32
-    requires { ⌜ (r < size (now table)) × (r < 512) ⌝ }
-    ensures { λ k. ⌜ k ≡ kindOf (now (table .entry)) r ⌝ }
-{
-    table[(6 * r) as usize]
-}
-
-pub fn word_at(table: &[u32], r: u32, k: u32) -> u32
-    requires { ⌜ (r < size (now table)) × (r < 512) × (k < 6) ⌝ }
-    ensures { λ w. ⌜ w ≡ word (now (table .entry)) r k ⌝ }
-{
-    table[(6 * r + k) as usize]
-}
-
-// The sort of row v's value: 1 for a condition's flag, else 0.
-pub fn sort_at(table: &[u32], v: u32) -> u32
-    requires { ⌜ (v < size (now table)) × (v < 512) ⌝ }
-    ensures { λ s. ⌜ s ≡ sortOf (now (table .entry)) v ⌝ }
-{
-    if kind_at(table, v) == OP {
-        if word_at(table, v, 1) >= CONDITIONS {
-            return 1;
-        }
-        return 0;
-    }
-    0
-}
-
-// How many values a row of this kind names.
-pub fn operand_count(kind: u32) -> u32
-    ensures { λ r. ⌜ (r ≡ operandCount kind) × (r ≤ 3) ⌝ }
-{
-    match kind {
-        OP => 2,
-        PICK => 3,
-        FOR => 3,
-        ARG => 1,
-        NEXT => 1,
-        OUT => 1,
-        _ => 0,
-    }
-}
-
-fn first_operand(kind: u32) -> u32
-    ensures { λ r. ⌜ (r ≡ firstOperand kind) × (1 ≤ r) × (r ≤ 2) ⌝ }
-{
-    if kind == OP { 2 } else { 1 }
-}
-
-// The j-th operand of row r.
-pub fn operand_at(table: &[u32], r: u32, j: u32) -> u32
-    requires { ⌜ (r < size (now table)) × (r < 512) × (j < 3) ⌝ }
-    ensures { λ w. ⌜ w ≡ operand (now (table .entry)) r j ⌝ }
-{
-    let k = first_operand(kind_at(table, r)) + j;
-    table[(6 * r + k) as usize]
-}
-
 // What is noted of row r.
 pub fn noted_at(notes: &[u32; 512], r: u32) -> u32
     requires { ⌜ r < 512 ⌝ }
@@ -102,7 +41,7 @@ fn body_after(table: &[u32], bodies: &[u32; 512], r: u32, b: u32) -> u32
     requires { ⌜ Passing (now table) (size (now table)) × Bodies (now table) r (now bodies) × (r < size (now table)) × (b ≡ bodyOf (now table) r) ⌝ }
     ensures { λ x. ⌜ x ≡ bodyOf (now (table .entry)) (r + 1) ⌝ }
 {
-    let kind = kind_at(table, r);
+    let kind = table::kind_at(table, r);
     if kind == FOR {
         return r;
     }
@@ -133,7 +72,7 @@ pub fn home_of(table: &[u32], n: u32, bodies: &[u32; 512], v: u32) -> u32
     requires { ⌜ Passing (now table) n × Bodies (now table) n (now bodies) × (v < n) ⌝ }
     ensures { λ x. ⌜ x ≡ home (now (table .entry)) v ⌝ }
 {
-    let kind = kind_at(table, v);
+    let kind = table::kind_at(table, v);
     if kind <= CONST {
         return n;
     }
@@ -151,7 +90,7 @@ pub fn reads_of(table: &[u32], bodies: &[u32; 512], r: u32) -> u32
     requires { ⌜ Passing (now table) (size (now table)) × Bodies (now table) (size (now table)) (now bodies) × (r < size (now table)) ⌝ }
     ensures { λ x. ⌜ x ≡ reads (now (table .entry)) r ⌝ }
 {
-    let kind = kind_at(table, r);
+    let kind = table::kind_at(table, r);
     if kind == ARG {
         return noted_at(bodies, noted_at(bodies, r));
     }
@@ -163,7 +102,7 @@ pub fn home_wire(table: &[u32], pairs: &[u32; 512], wires: &[u32; 512], v: u32) 
     requires { ⌜ Passing (now table) (size (now table)) × Pairs (now table) (now pairs) × Low (now wires) × (v < size (now table)) × (kindOf (now table) v ≤ 6) ⌝ }
     ensures { λ w. ⌜ w ≡ homeFrom (now (table .entry)) (now (wires .entry)) v ⌝ }
 {
-    let kind = kind_at(table, v);
+    let kind = table::kind_at(table, v);
     if kind <= CONST {
         return v;
     }
@@ -195,7 +134,7 @@ pub fn count_starts(table: &[u32], n: u32) -> u32
     let mut count: u32 = 0;
     let mut r: u32 = 0;
     while r < n {
-        count += start_of(kind_at(table, r));
+        count += start_of(table::kind_at(table, r));
         r += 1;
     }
     count
@@ -216,7 +155,7 @@ pub fn count_results(table: &[u32], n: u32) -> u32
     let mut count: u32 = 0;
     let mut r: u32 = 0;
     while r < n {
-        count += result_of(kind_at(table, r));
+        count += result_of(table::kind_at(table, r));
         r += 1;
     }
     count
@@ -227,7 +166,7 @@ fn nodes_of(table: &[u32], counts: &[u32; 512], r: u32) -> u32
     requires { ⌜ Passing (now table) (size (now table)) × Counted (now table) (now counts) × (r < size (now table)) ⌝ }
     ensures { λ x. ⌜ (nodeBase (now (table .entry)) (r + 1) ≡ nodeBase (now (table .entry)) r + x) × (x ≤ 2000) ⌝ }
 {
-    let kind = kind_at(table, r);
+    let kind = table::kind_at(table, r);
     if kind == FOR {
         return 3 + 2 * counts[r as usize];
     }
@@ -248,7 +187,7 @@ fn wires_of(table: &[u32], counts: &[u32; 512], r: u32) -> u32
     requires { ⌜ Passing (now table) (size (now table)) × Counted (now table) (now counts) × (r < size (now table)) ⌝ }
     ensures { λ x. ⌜ (wireBase (now (table .entry)) (r + 1) ≡ wireBase (now (table .entry)) r + x) × (x ≤ 2000) ⌝ }
 {
-    let kind = kind_at(table, r);
+    let kind = table::kind_at(table, r);
     if kind == FOR {
         return 5 + 3 * counts[r as usize];
     }
@@ -303,10 +242,10 @@ fn note_row_uses(table: &[u32], heads: &mut [u32; 512], links: &mut [u32; 1536],
     requires { ⌜ Passing (now table) (size (now table)) × (r < size (now table)) × Uses (now table) (3 * r) (now heads) (now links) ⌝ }
     ensures { λ u. ⌜ Uses (now (table .entry)) (3 * (r + 1)) (now (heads .exit)) (now (links .exit)) ⌝ }
 {
-    let m = operand_count(kind_at(table, r));
+    let m = table::operand_count(table::kind_at(table, r));
     let mut j: u32 = 0;
     while j < m {
-        let v = operand_at(table, r, j);
+        let v = table::operand_at(table, r, j);
         links[(3 * r + j) as usize] = heads[v as usize];
         heads[v as usize] = 3 * r + j + 1;
         j += 1;
@@ -331,7 +270,7 @@ fn served_by(table: &[u32], bodies: &[u32; 512], pairs: &[u32; 512], r: u32) -> 
     ensures { λ a. ⌜ a ≡ argOf (now (table .entry)) r ⌝ }
 {
     let before = r - 1;
-    if kind_at(table, before) == NEXT {
+    if table::kind_at(table, before) == NEXT {
         return pairs[before as usize] + 1;
     }
     bodies[r as usize] + 1
@@ -342,7 +281,7 @@ fn pair_row(table: &[u32], bodies: &[u32; 512], pairs: &mut [u32; 512], r: u32)
     requires { ⌜ Passing (now table) (size (now table)) × Bodies (now table) (size (now table)) (now bodies) × PairsBefore (now table) r (now pairs) × (r < size (now table)) ⌝ }
     ensures { λ u. ⌜ PairsBefore (now (table .entry)) (r + 1) (now (pairs .exit)) ⌝ }
 {
-    if kind_at(table, r) == NEXT {
+    if table::kind_at(table, r) == NEXT {
         let a = served_by(table, bodies, pairs, r);
         pairs[r as usize] = a;
         pairs[a as usize] = r;

@@ -21,7 +21,7 @@ use lib.Seq.{getD-set-same, getD-set-other}
 use Rattle.word.specs.Words.{flag}
 use Rattle.step.specs.Kinds.{outputs}
 use Rattle.graph.specs.Below.{total, total-more}
-use Rattle.table.specs.Rows.{kindOf, size, operandCount}
+use Rattle.table.specs.Rows.{kindOf, size, operandCount, at-most-three}
 use Rattle.table.specs.Bodies.{operand, nextOf}
 use Rattle.table.specs.Check.{answer, tableRefusal}
 use Rattle.structure.specs.Structure.{Structure}
@@ -69,19 +69,6 @@ all-noted t n r noted e d C = record { long = C .long; count = λ L l k. C .coun
 
 -- ---- named values
 
-few-operands : (k : ℕ) → operandCount k ≤ 3
-unfolding operandCount
-few-operands k = go (eqb k 2) (eqb k 3) (eqb k 4) (eqb k 5) (eqb k 6) (eqb k 8)
-  where
-    go : (a b c d e f : Bool) → cond a 2 (cond b 3 (cond c 3 (cond d 1 (cond e 1 (cond f 1 0))))) ≤ 3
-    go true b c d e f = omega arith
-    go false true c d e f = omega arith
-    go false false true d e f = omega arith
-    go false false false true e f = omega arith
-    go false false false false true f = omega arith
-    go false false false false false true = omega arith
-    go false false false false false false = omega arith
-
 module _ (t : List ℕ) (n : ℕ) (P : Passing t n) (heads links : List ℕ) (U : Uses t (3 * n) heads links) (v : ℕ) where
   pub unnamed-is : v < n → getD heads v 0 ≡ 0 → 1 ≡ flag (not (namedAny t v))
   unnamed-is l e = go (namedAny t v) refl
@@ -93,7 +80,7 @@ module _ (t : List ℕ) (n : ℕ) (P : Passing t n) (heads links : List ℕ) (U 
           no : (r : ℕ) × (j : ℕ) × (r < size t) × (j < operandCount (kindOf t r)) × (operand t r j ≡ v) → ⊥
           no m =
               let p = P .rows in
-              let c = few-operands (kindOf t (m .0)) in
+              let c = at-most-three (kindOf t (m .0)) in
               let lr = m .2 in
               let lj = m .3 in
               let h = U .head-last (m .0) (m .1) (m .2, m .3) (omega arith) in

@@ -49,7 +49,7 @@ fn carried_of(table: &[u32], n: u32, bodies: &[u32; 512], r: u32) -> u32
     requires { ⌜ Passing (now table) n × Bodies (now table) n (now bodies) × (r < n) ⌝ }
     ensures { λ c. ⌜ ((kindOf (now (table .entry)) r ≡ 4) → c ≡ length (carriedInto (now (table .entry)) r)) ⌝ }
 {
-    if carrying::kind_at(table, r) == FOR {
+    if table::kind_at(table, r) == FOR {
         return count_carried(table, n, bodies, r);
     }
     0
@@ -85,7 +85,7 @@ fn uses_of(table: &[u32], counts: &[u32; 512], r: u32) -> u32
     requires { ⌜ Passing (now table) (size (now table)) × Counted (now table) (now counts) × (r < size (now table)) ⌝ }
     ensures { λ u. ⌜ (u ≡ rowUses (now (table .entry)) r) × (u ≤ 3000) ⌝ }
 {
-    let kind = carrying::kind_at(table, r);
+    let kind = table::kind_at(table, r);
     if kind == OP {
         return 2;
     }
@@ -118,7 +118,7 @@ fn idle_of(
     requires { ⌜ Passing (now table) n × Pairs (now table) (now pairs) × Uses (now table) (3 * n) (now heads) (now links) × Counted (now table) (now counts) × (r < n) ⌝ }
     ensures { λ i. ⌜ (i ≡ rowIdle (now (table .entry)) r) × (i ≤ 3000) ⌝ }
 {
-    let kind = carrying::kind_at(table, r);
+    let kind = table::kind_at(table, r);
     if ARG < kind {
         return 0;
     }

@@ -23,9 +23,9 @@ use Rattle.graph.specs.SumGraph.{sumGraph}
 use Rattle.state.specs.State.{tokenAt}
 use Rattle.state.specs.Run.{COMPLETE, ZERO-STEP, outcome}
 use Rattle.confluence.specs.Statements.{Fires, AtRest, putOnWire}
-use Rattle.table.specs.Rows.{size, usedWords, operandCount, firstOperand, sortOf, wantedSort}
+use Rattle.table.specs.Rows.{size, fieldAt, usedWords, operandCount, firstOperand, sortOf, wantedSort}
 use Rattle.table.specs.Scan.{after, stackAt, bodyOf, readStack, reads, homeBy, home, bodyOpen, endPassed, visible}
-use Rattle.table.specs.Check.{Refusal, answer, tableRefusal, lengthRight, kindRight, zerosFrom, spareRight, codeRight, follows, stands, placeRight, depthRight, namesFrom, namesRight, typesFrom, typesRight, endRight, rowRefusal, rowsFrom}
+use Rattle.table.specs.Check.{Refusal, answer, tableRefusal, lengthRight, kindRight, zerosFrom, spareRight, codesFrom, codeRight, follows, stands, placeRight, depthRight, namesFrom, namesRight, typesFrom, typesRight, endRight, rowRefusal, rowsFrom}
 use Rattle.table.specs.Bodies.{rowBy, rowAt, ends, endFrom, endOf, argsFrom, argsOf, firstOf, isArg, isNext, argOf, nextOf}
 use Rattle.table.specs.Cases.{const, loop, arg, next, close, out, sumTable, sumBy, p12Table, sum-passes, p12-passes}
 use Rattle.reading.specs.Reading.{Env, Opening, at, nextNamed, oneTurn, endStep, inputsBelow, firstWords, begin, turn, leave, step, andThen, readFrom, read}
@@ -39,7 +39,7 @@ use Rattle.faithful.specs.Statements.{loadedTable, streamNode, rawWire, 
 
 -- everything that a refusal computes with, and everything that a reading does
 unfoldable pub check-computes : ℕ
-unfolding usedWords operandCount firstOperand sortOf wantedSort after stackAt bodyOf readStack reads homeBy home bodyOpen endPassed visible lengthRight kindRight zerosFrom spareRight codeRight follows stands placeRight depthRight namesFrom namesRight typesFrom typesRight endRight rowRefusal rowsFrom tableRefusal
+unfolding usedWords operandCount firstOperand sortOf wantedSort after stackAt bodyOf readStack reads homeBy home bodyOpen endPassed visible lengthRight kindRight zerosFrom spareRight fieldAt codesFrom codeRight follows stands placeRight depthRight namesFrom namesRight typesFrom typesRight endRight rowRefusal rowsFrom tableRefusal
 check-computes = 0
 
 unfoldable pub reading-computes : ℕ

@@ -1,5 +1,4 @@
--- Sorts as the code reads and stores them: the sorts of places by a kind's number, the table of wire sorts as it is filled,
--- and a row's inputs against it.
+-- Sorts as the code stores and reads them: the table of wire sorts as it is filled, and a row's inputs against it.
 -- Assumes nothing.
 use Prim.Native.Nat.{ℕ, zero, suc, _+_, _-_, _<_, _≤_}
 use mathlib.Core.Path.{_≡_, refl, sym, ap, _∙_}
@@ -12,77 +11,16 @@ use lib.Dec.{eqb, ltb}
 use lib.ListN.{getD, set, take, drop, length, length-replicate, replicate}
 use lib.Seq.{sets, sets-eq}
 use Rattle.word.specs.Words.{pick}
-use Rattle.step.specs.Kinds.{Kind, kindOf, inputs, outputs, Input, in0, in1, in2, out0, out1, STREAM, GATE, CARRY, INVARIANT, SPLIT, FORK, DRAIN, OP, PICK}
+use Rattle.step.specs.Kinds.{Kind, kindOf, inputs, outputs, Input, in0, in1, in2, out0, out1}
 use Rattle.graph.specs.Below.{joined, joined-more}
 use Rattle.graph.specs.Graph.{nodeCount, startCount, wireCount, resultAt, rowPlace, nodeOf, rowAt, nodeAt, inputPlace, column, inputSortOf, outputSortOf, outputSorts, firstAt, wireSorts, sortAt, as-many-sorts-as-outputs}
 use Rattle.graph.specs.Refusal.{rowSorted, nodeSorted, resultSorted}
 use Rattle.graph.proofs.Rows.{node-is-row}
 
--- ---- a kind's number that is none of the arms above it
-
-pub in0-else : (s k : ℕ) → (k ≡ 2 → ⊥) → (k ≡ 3 → ⊥) → (k ≡ 4 → ⊥) → (k ≡ 8 → ⊥) → s ≡ inputSortOf (kindOf k) s in0
-unfolding kindOf
-in0-else s zero a b c d = refl
-in0-else s (suc zero) a b c d = refl
-in0-else s (suc (suc zero)) a b c d = absurd (a refl)
-in0-else s (suc (suc (suc zero))) a b c d = absurd (b refl)
-in0-else s (suc (suc (suc (suc zero)))) a b c d = absurd (c refl)
-in0-else s (suc (suc (suc (suc (suc zero))))) a b c d = refl
-in0-else s (suc (suc (suc (suc (suc (suc zero)))))) a b c d = refl
-in0-else s (suc (suc (suc (suc (suc (suc (suc zero))))))) a b c d = refl
-in0-else s (suc (suc (suc (suc (suc (suc (suc (suc zero)))))))) a b c d = absurd (d refl)
-in0-else s (suc (suc (suc (suc (suc (suc (suc (suc (suc k))))))))) a b c d = refl
-
-pub in1-else : (s k : ℕ) → (k ≡ 1 → ⊥) → s ≡ inputSortOf (kindOf k) s in1
-unfolding kindOf
-in1-else s zero a = refl
-in1-else s (suc zero) a = absurd (a refl)
-in1-else s (suc (suc zero)) a = refl
-in1-else s (suc (suc (suc zero))) a = refl
-in1-else s (suc (suc (suc (suc zero)))) a = refl
-in1-else s (suc (suc (suc (suc (suc zero))))) a = refl
-in1-else s (suc (suc (suc (suc (suc (suc zero)))))) a = refl
-in1-else s (suc (suc (suc (suc (suc (suc (suc zero))))))) a = refl
-in1-else s (suc (suc (suc (suc (suc (suc (suc (suc zero)))))))) a = refl
-in1-else s (suc (suc (suc (suc (suc (suc (suc (suc (suc k))))))))) a = refl
-
-pub out0-else : (c s k : ℕ) → (k ≡ 7 → ⊥) → s ≡ outputSortOf (kindOf k) c s out0
-unfolding kindOf
-out0-else c s zero a = refl
-out0-else c s (suc zero) a = refl
-out0-else c s (suc (suc zero)) a = refl
-out0-else c s (suc (suc (suc zero))) a = refl
-out0-else c s (suc (suc (suc (suc zero)))) a = refl
-out0-else c s (suc (suc (suc (suc (suc zero))))) a = refl
-out0-else c s (suc (suc (suc (suc (suc (suc zero)))))) a = refl
-out0-else c s (suc (suc (suc (suc (suc (suc (suc zero))))))) a = absurd (a refl)
-out0-else c s (suc (suc (suc (suc (suc (suc (suc (suc zero)))))))) a = refl
-out0-else c s (suc (suc (suc (suc (suc (suc (suc (suc (suc k))))))))) a = refl
-
-pub out1-else : (c s k : ℕ) → (k ≡ 0 → ⊥) → (k ≡ 1 → ⊥) → (k ≡ 7 → ⊥) → s ≡ outputSortOf (kindOf k) c s out1
-unfolding kindOf
-out1-else c s zero x y z = absurd (x refl)
-out1-else c s (suc zero) x y z = absurd (y refl)
-out1-else c s (suc (suc zero)) x y z = refl
-out1-else c s (suc (suc (suc zero))) x y z = refl
-out1-else c s (suc (suc (suc (suc zero)))) x y z = refl
-out1-else c s (suc (suc (suc (suc (suc zero))))) x y z = refl
-out1-else c s (suc (suc (suc (suc (suc (suc zero)))))) x y z = refl
-out1-else c s (suc (suc (suc (suc (suc (suc (suc zero))))))) x y z = absurd (z refl)
-out1-else c s (suc (suc (suc (suc (suc (suc (suc (suc zero)))))))) x y z = refl
-out1-else c s (suc (suc (suc (suc (suc (suc (suc (suc (suc k))))))))) x y z = refl
-
+-- A third input has the row's sort.
 in2-own : (o : Option Kind) (s : ℕ) → inputSortOf o s in2 ≡ s
 in2-own none s = refl
-in2-own (some STREAM) s = refl
-in2-own (some GATE) s = refl
-in2-own (some CARRY) s = refl
-in2-own (some INVARIANT) s = refl
-in2-own (some SPLIT) s = refl
-in2-own (some FORK) s = refl
-in2-own (some DRAIN) s = refl
-in2-own (some OP) s = refl
-in2-own (some PICK) s = refl
+in2-own (some κ) s = refl
 
 -- ---- the table of wire sorts
 

@@ -6,9 +6,10 @@ ghost use lib.Dec.{eqb, ltb};
 ghost use lib.ListN.{length, getD, set};
 ghost use lib.Seq.{sets};
 ghost use Rattle.word.specs.Words.{pick, flag};
-ghost use Rattle.step.specs.Kinds.{kindOf, inputs, outputs, codes, ownSorts, operatorSort, in0, in1, out0, out1};
+ghost use Rattle.step.specs.Kinds.{kindOf, columnsOf, inputs, outputs, codes, ownSorts, operatorSort, placeSort, in0, in1, out0, out1};
 ghost use mathlib.Core.List.{[], _∷_};
 ghost use Rattle.graph.specs.Below.{every, joined};
+ghost use Rattle.graph.specs.Said.{placeOf, said};
 ghost use Rattle.graph.specs.Counted.{onceMore, counted};
 ghost use Rattle.graph.specs.Graph.{absent, nodeCount, wireCount, startCount, resultCount, resultAt, rowPlace, column, nodeAt, outputCount, firstAt, nodeReads, results, inputSortOf, outputSortOf, outputSorts, sortAt};
 ghost use Rattle.graph.specs.Refusal.{hasShape, Shaped, startRight, rowRight, nodeRight, rowsRight, nodeBelow, resultBelow, wiresBelow, readOnce, nodeSorted, resultSorted, sortsAgree, graphRefusal};
@@ -43,73 +44,108 @@ pub fn wide(x: u32) -> usize
     x as usize
 }
 
-// The columns of the table of kinds. A number over 8 is no kind and has none of each.
+// The kinds of nodes.
+const STREAM: u32 = 0;
+
+const GATE: u32 = 1;
+
+const CARRY: u32 = 2;
+
+const INVARIANT: u32 = 3;
+
+const SPLIT: u32 = 4;
+
+const FORK: u32 = 5;
+
+const DRAIN: u32 = 6;
+
+const OP: u32 = 7;
+
+const PICK: u32 = 8;
+
+// What stands on a place: a word of the row's own sort, a flag, or what the row's operator gives.
+const OWN: u32 = 0;
+
+const FLAG: u32 = 1;
+
+const GIVEN: u32 = 2;
+
+// A row of the table of kinds: how many inputs, outputs, codes and sorts, then what stands on the places.
+struct Columns {
+    inputs: u32,
+    outputs: u32,
+    codes: u32,
+    sorts: u32,
+    in0: u32,
+    in1: u32,
+    out0: u32,
+    out1: u32,
+}
+
+fn said(
+    inputs: u32,
+    outputs: u32,
+    codes: u32,
+    sorts: u32,
+    in0: u32,
+    in1: u32,
+    out0: u32,
+    out1: u32,
+) -> Columns
+    ensures { λ c. ⌜ said (c .inputs) (c .outputs) (c .codes) (c .sorts) (c .in0) (c .in1) (c .out0) (c .out1) ≡ said inputs outputs codes sorts in0 in1 out0 out1 ⌝ }
+{
+    Columns {
+        inputs,
+        outputs,
+        codes,
+        sorts,
+        in0,
+        in1,
+        out0,
+        out1,
+    }
+}
+
+// The table of kinds. What follows is read from it. A number over 8 is no kind and has none of each.
+fn columns_of(kind: u32) -> Columns
+    ensures { λ c. ⌜ said (c .inputs) (c .outputs) (c .codes) (c .sorts) (c .in0) (c .in1) (c .out0) (c .out1) ≡ columnsOf (kindOf kind) ⌝ }
+{
+    match kind {
+        STREAM => said(3, 2, 30, 1, OWN, OWN, OWN, FLAG),
+        GATE => said(2, 2, 1, 2, OWN, FLAG, OWN, FLAG),
+        CARRY => said(3, 1, 1, 2, FLAG, OWN, OWN, OWN),
+        INVARIANT => said(2, 1, 1, 2, FLAG, OWN, OWN, OWN),
+        SPLIT => said(2, 2, 1, 2, FLAG, OWN, OWN, OWN),
+        FORK => said(1, 2, 1, 2, OWN, OWN, OWN, OWN),
+        DRAIN => said(1, 0, 1, 2, OWN, OWN, OWN, OWN),
+        OP => said(2, 1, 8, 1, OWN, OWN, GIVEN, GIVEN),
+        PICK => said(3, 1, 1, 1, FLAG, OWN, OWN, OWN),
+        _ => said(0, 0, 0, 0, OWN, OWN, OWN, OWN),
+    }
+}
+
 pub fn inputs_of(kind: u32) -> u32
     ensures { λ r. ⌜ r ≡ column inputs (kindOf kind) ⌝ }
 {
-    match kind {
-        0 => 3,
-        1 => 2,
-        2 => 3,
-        3 => 2,
-        4 => 2,
-        5 => 1,
-        6 => 1,
-        7 => 2,
-        8 => 3,
-        _ => 0,
-    }
+    columns_of(kind).inputs
 }
 
 pub fn outputs_of(kind: u32) -> u32
     ensures { λ r. ⌜ r ≡ column outputs (kindOf kind) ⌝ }
 {
-    match kind {
-        0 => 2,
-        1 => 2,
-        2 => 1,
-        3 => 1,
-        4 => 2,
-        5 => 2,
-        6 => 0,
-        7 => 1,
-        8 => 1,
-        _ => 0,
-    }
+    columns_of(kind).outputs
 }
 
 pub fn codes_of(kind: u32) -> u32
     ensures { λ r. ⌜ r ≡ column codes (kindOf kind) ⌝ }
 {
-    match kind {
-        0 => 30,
-        1 => 1,
-        2 => 1,
-        3 => 1,
-        4 => 1,
-        5 => 1,
-        6 => 1,
-        7 => 8,
-        8 => 1,
-        _ => 0,
-    }
+    columns_of(kind).codes
 }
 
 pub fn sorts_of(kind: u32) -> u32
     ensures { λ r. ⌜ r ≡ column ownSorts (kindOf kind) ⌝ }
 {
-    match kind {
-        0 => 1,
-        1 => 2,
-        2 => 2,
-        3 => 2,
-        4 => 2,
-        5 => 2,
-        6 => 2,
-        7 => 1,
-        8 => 1,
-        _ => 0,
-    }
+    columns_of(kind).sorts
 }
 
 // 11: the counts before any row.
@@ -420,45 +456,38 @@ fn operator_sort(code: u32) -> u32
     }
 }
 
+fn place_sort(place: u32, code: u32, sort: u32) -> u32
+    ensures { λ r. ⌜ r ≡ placeSort (placeOf place) code sort ⌝ }
+{
+    match place {
+        OWN => sort,
+        FLAG => 1,
+        _ => operator_sort(code),
+    }
+}
+
 pub fn in0_sort(kind: u32, sort: u32) -> u32
     ensures { λ r. ⌜ r ≡ inputSortOf (kindOf kind) sort in0 ⌝ }
 {
-    match kind {
-        2 => 1,
-        3 => 1,
-        4 => 1,
-        8 => 1,
-        _ => sort,
-    }
+    place_sort(columns_of(kind).in0, 0, sort)
 }
 
 pub fn in1_sort(kind: u32, sort: u32) -> u32
     ensures { λ r. ⌜ r ≡ inputSortOf (kindOf kind) sort in1 ⌝ }
 {
-    match kind {
-        1 => 1,
-        _ => sort,
-    }
+    place_sort(columns_of(kind).in1, 0, sort)
 }
 
 pub fn out0_sort(kind: u32, code: u32, sort: u32) -> u32
     ensures { λ r. ⌜ r ≡ outputSortOf (kindOf kind) code sort out0 ⌝ }
 {
-    match kind {
-        7 => operator_sort(code),
-        _ => sort,
-    }
+    place_sort(columns_of(kind).out0, code, sort)
 }
 
 pub fn out1_sort(kind: u32, code: u32, sort: u32) -> u32
     ensures { λ r. ⌜ r ≡ outputSortOf (kindOf kind) code sort out1 ⌝ }
 {
-    match kind {
-        0 => 1,
-        1 => 1,
-        7 => operator_sort(code),
-        _ => sort,
-    }
+    place_sort(columns_of(kind).out1, code, sort)
 }
 
 fn mark(sorts: &mut [u32; 8192], present: bool, wire: u32, sort: u32)

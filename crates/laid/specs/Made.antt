@@ -19,7 +19,7 @@ use borrow.Author.Tests.{eqb-true, eq-eqb, ne-eqb, le-leb, lt-leb, lt-ltb, le-lt
 use lib.Dec.{eqb, leb}
 use Rattle.step.specs.Kinds.{Kind, OP, PICK, outputs, inputSort, operatorSort, Input, in0, in1, in2, Output, out0, out1}
 use Rattle.graph.specs.Graph.{hasInput}
-use Rattle.table.specs.Rows.{kindOf, word, size, operandCount, firstOperand, sortOf, wantedSort}
+use Rattle.table.specs.Rows.{kindOf, word, size, operandCount, firstOperand, sortOf, wantedSort, fieldAt, every-other-names-a-word}
 use Rattle.table.specs.Scan.{bodyOf, home}
 use Rattle.table.specs.Bodies.{argOf, nextOf}
 use Rattle.structure.specs.Structure.{Structure}
@@ -258,8 +258,7 @@ module _ (t : List ℕ) (S : Structure t) where
   one-of r k e (inr (inr h)) = rw (e, h)
 
   word-wanted : (r j k : ℕ) → kindOf t r ≡ k → (k ≡ 3 → ⊥) → wantedSort (kindOf t r) (firstOperand (kindOf t r) + j) ≡ 0
-  unfolding wantedSort
-  word-wanted r j k e n = rw (ne-eqb (kindOf t r) 3 (λ z. n (sym e ∙ z)))
+  word-wanted r j k e n = every-other-names-a-word (kindOf t r) (firstOperand (kindOf t r) + j) (λ z q. n (sym e ∙ z))
 
   pick-wanted : (r j s : ℕ) → kindOf t r ≡ 3 → wantedSort 3 (1 + j) ≡ s → wantedSort (kindOf t r) (firstOperand (kindOf t r) + j) ≡ s
   unfolding firstOperand
@@ -306,7 +305,7 @@ module _ (t : List ℕ) (S : Structure t) where
       go in2 = subst (λ (f : Feed). Fine f 0) (sym (op-takes-two t r e)) tt
 
   pick-node-fine : (r : ℕ) (k : Input) → r < size t → kindOf t r ≡ 3 → Fine (roleFeed t (opNode r) k) (inputSort (roleKind t (opNode r)) 0 k)
-  unfolding wantedSort
+  unfolding fieldAt wantedSort
   pick-node-fine r k l e = subst (λ (κ : Kind). Fine (roleFeed t (opNode r) k) (inputSort κ 0 k)) (sym (pick-is-PICK t r e)) (go k)
     where
       go : (k : Input) → Fine (roleFeed t (opNode r) k) (inputSort PICK 0 k)

@@ -18,7 +18,7 @@ use borrow.Author.Tests.{eqb-true}
 use lib.Dec.{eqb, leb, ltb}
 use lib.ListN.{length, getElem?, length-append}
 use Rattle.word.specs.Words.{pick}
-use Rattle.step.specs.Kinds.{Kind, STREAM, GATE, CARRY, INVARIANT, SPLIT, OP, PICK, FORK, DRAIN, outputs, codes, ownSorts, inputSort, outputSort, Input, in0, in1, in2, Output, out0, out1}
+use Rattle.step.specs.Kinds.{Kind, STREAM, GATE, CARRY, INVARIANT, SPLIT, OP, PICK, FORK, DRAIN, outputs, codes, ownSorts, inputSort, outputSort, Input, in0, in1, in2, Output, out0, out1, Place, own, flag, given, columns, placeSort}
 use Rattle.graph.specs.Below.{total}
 use Rattle.graph.specs.Graph.{absent, Node, hasInput, wireOn, outputCount, sortAt}
 use Rattle.table.specs.Rows.{kindOf, word, sortOf}
@@ -109,18 +109,14 @@ operator-small : (b : Bool) → pick b 0 1 < 2
 operator-small true = omega arith
 operator-small false = omega arith
 
+place-sort-small : (p : Place) (c s : ℕ) → s < 2 → placeSort p c s < 2
+place-sort-small own c s h = h
+place-sort-small flag c s h = omega arith
+place-sort-small given c s h = operator-small (ltb c 3)
+
 output-sort-small : (κ : Kind) (c s : ℕ) (o : Output) → s < 2 → outputSort κ c s o < 2
-output-sort-small STREAM c s out0 h = h
-output-sort-small STREAM c s out1 h = omega arith
-output-sort-small GATE c s out0 h = h
-output-sort-small GATE c s out1 h = omega arith
-output-sort-small CARRY c s o h = h
-output-sort-small INVARIANT c s o h = h
-output-sort-small SPLIT c s o h = h
-output-sort-small FORK c s o h = h
-output-sort-small DRAIN c s o h = h
-output-sort-small OP c s o h = operator-small (ltb c 3)
-output-sort-small PICK c s o h = h
+output-sort-small κ c s out0 h = place-sort-small (columns κ .out0) c s h
+output-sort-small κ c s out1 h = place-sort-small (columns κ .out1) c s h
 
 wire-sort-small : (t : List ℕ) (w : Wire) → wireSort t w < 2
 wire-sort-small t (start v) = omega arith
@@ -300,7 +296,7 @@ module _ (t : List ℕ) (S : Structure t) where
       below in1 e = let z : _≡_ {A = ℕ} 0 1 = cc in absurd (omega arith)
       below in2 e = let z : _≡_ {A = ℕ} 0 1 = cc in absurd (omega arith)
 
-      sorted : (k : Input) → hasInput DRAIN k ≡ true → sortAt (loweredWords t) (wireOn (drainNode s x) k) ≡ s
+      sorted : (k : Input) → hasInput DRAIN k ≡ true → sortAt (loweredWords t) (wireOn (drainNode s x) k) ≡ inputSort DRAIN s k
       sorted in0 e = h .1
       sorted in1 e = let z : _≡_ {A = ℕ} 0 1 = cc in absurd (omega arith)
       sorted in2 e = let z : _≡_ {A = ℕ} 0 1 = cc in absurd (omega arith)
@@ -316,7 +312,7 @@ module _ (t : List ℕ) (S : Structure t) where
       below in1 e = let z : _≡_ {A = ℕ} 0 1 = cc in absurd (omega arith)
       below in2 e = let z : _≡_ {A = ℕ} 0 1 = cc in absurd (omega arith)
 
-      sorted : (k : Input) → hasInput FORK k ≡ true → sortAt (loweredWords t) (wireOn (forkNode s x f) k) ≡ s
+      sorted : (k : Input) → hasInput FORK k ≡ true → sortAt (loweredWords t) (wireOn (forkNode s x f) k) ≡ inputSort FORK s k
       sorted in0 e = h .1
       sorted in1 e = let z : _≡_ {A = ℕ} 0 1 = cc in absurd (omega arith)
       sorted in2 e = let z : _≡_ {A = ℕ} 0 1 = cc in absurd (omega arith)

@@ -8,7 +8,7 @@ use native.Mathlib.Omega.{arith}
 use native.Mathlib.Decide.{ℕ-discrete, decLt}
 use lib.ListN.{length, getD, set, length-set}
 use lib.Seq.{getD-set-same, getD-set-other}
-use Rattle.table.specs.Rows.{kindOf, size}
+use Rattle.table.specs.Rows.{kindOf, size, at-most-three}
 use Rattle.table.specs.Scan.{reads}
 use Rattle.table.specs.Bodies.{operand}
 use Rattle.structure.specs.Structure.{Structure, right-table-has-structure}
@@ -20,7 +20,6 @@ use Rattle.laid.specs.Wired.{valueNumber}
 use Rattle.laid.specs.Scanned.{Walks, walked-is-carried, carried-is-walked, reads-body-or-rim}
 use Rattle.carrying.specs.Kept.{Passing, OnTheWay, IsUse, UseOrNone, Uses, homeFrom, Counted}
 use Rattle.carrying.specs.Homes.{home-from-bases}
-use Rattle.carrying.proofs.Linking.{at-most-three}
 use Rattle.laying.specs.Entering.{RightCopy, Sound, Resolved, Carries}
 use Rattle.laid.specs.Those
 use Rattle.laying.specs.Using.{Counting, UseAt, UseRight, UseResolved, UsingRight, Using, UsesRight, UsesResolved, ValuesRight, Values}

@@ -133,7 +133,7 @@ fn enter(
         carrying::noted_at(nodes, b),
         w,
         place,
-        carrying::sort_at(table, v),
+        table::sort_at(table, v),
         outer,
     );
     counts[b as usize] = place + 1;
@@ -316,7 +316,7 @@ fn lay_op(
 {
     let i = carrying::noted_at(nodes, r);
     let w = carrying::noted_at(wires, r);
-    let code = carrying::word_at(table, r, 1);
+    let code = table::word_at(table, r, 1);
     put_row(
         rows,
         i,
@@ -363,8 +363,8 @@ fn lay_loop(
 {
     let i = carrying::noted_at(nodes, r);
     let w = carrying::noted_at(wires, r);
-    let update = carrying::word_at(table, r, 4);
-    let condition = carrying::word_at(table, r, 5);
+    let update = table::word_at(table, r, 4);
+    let condition = table::word_at(table, r, 5);
     let a = wire_of(at, 3 * r);
     let b = wire_of(at, 3 * r + 1);
     let c = wire_of(at, 3 * r + 2);
@@ -428,7 +428,7 @@ fn lay_row(
     requires { ⌜ Known (now table) (now bodies) (now pairs) (now nodes) (now wires) (now at) × (r < size (now table)) × (length (now rows) ≡ 28672) ⌝ }
     ensures { λ u. ⌜ RowLaid (now (table .entry)) r (now (rows .entry)) (now (rows .exit)) ⌝ }
 {
-    let kind = carrying::kind_at(table, r);
+    let kind = table::kind_at(table, r);
     if kind == ROW_OP {
         lay_op(table, nodes, wires, at, rows, r);
         return;
@@ -472,7 +472,7 @@ fn lay_out(table: &[u32], at: &[u32; 1536], outs: &mut [u32; 512], r: u32, k: u3
     requires { ⌜ Passing (now table) (size (now table)) × Operands (now table) (now at) × (r < size (now table)) × OutsLaid (now table) r k (now outs) ⌝ }
     ensures { λ m. ⌜ OutsLaid (now (table .entry)) (r + 1) m (now (outs .exit)) ⌝ }
 {
-    if carrying::kind_at(table, r) == ROW_OUT {
+    if table::kind_at(table, r) == ROW_OUT {
         outs[k as usize] = wire_of(at, 3 * r);
         return k + 1;
     }

@@ -13,9 +13,9 @@ use mathlib.Core.List.{List, [], _∷_, _++_}
 use native.Mathlib.Decide.{ℕ-discrete}
 use Rattle.graph.specs.Graph.{absent}
 use Rattle.graph.specs.SumGraph.{sumGraph}
-use Rattle.table.specs.Rows.{usedWords, operandCount, firstOperand, sortOf, wantedSort}
+use Rattle.table.specs.Rows.{fieldAt, usedWords, operandCount, firstOperand, sortOf, wantedSort}
 use Rattle.table.specs.Scan.{after, stackAt, bodyOf, readStack, reads, homeBy, home, bodyOpen, endPassed, visible}
-use Rattle.table.specs.Check.{lengthRight, kindRight, zerosFrom, spareRight, codeRight, follows, stands, placeRight, depthRight, namesFrom, namesRight, typesFrom, typesRight, endRight, rowRefusal, answer, rowsFrom, tableRefusal}
+use Rattle.table.specs.Check.{lengthRight, kindRight, zerosFrom, spareRight, codesFrom, codeRight, follows, stands, placeRight, depthRight, namesFrom, namesRight, typesFrom, typesRight, endRight, rowRefusal, answer, rowsFrom, tableRefusal}
 use Rattle.table.specs.Bodies.{ends, endFrom, endOf, argsFrom, argsOf, argOf, nextOf}
 use lib.ListN.{take, set, replicate}
 use Rattle.table.specs.Cases.{input, const, op, pick, loop, arg, next, close, out, nested, sumTable, sumBy, p12Table}
@@ -142,7 +142,7 @@ changed-row-changes-its-start = refl
 
 -- everything that the answers compute with, besides
 checking-computes : ℕ
-unfolding usedWords wantedSort bodyOpen endPassed visible lengthRight kindRight zerosFrom spareRight codeRight follows stands placeRight depthRight namesFrom namesRight typesFrom typesRight endRight rowRefusal rowsFrom tableRefusal inLimits fitsInto refusedBy checkAnswer lowerRefusal lowerAnswer lentAfter
+unfolding usedWords wantedSort bodyOpen endPassed visible lengthRight kindRight zerosFrom spareRight fieldAt codesFrom codeRight follows stands placeRight depthRight namesFrom namesRight typesFrom typesRight endRight rowRefusal rowsFrom tableRefusal inLimits fitsInto refusedBy checkAnswer lowerRefusal lowerAnswer lentAfter
 checking-computes = 0
 
 pub sum-table-has-room : checkAnswer sumTable ≡ answer 0 0

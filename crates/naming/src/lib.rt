@@ -79,7 +79,7 @@ fn mark_operands(table: &[u32], r: u32, count: u32, marks: &mut [u32; 512])
 {
     let mut j: u32 = 0;
     while j < count {
-        let v = carrying::operand_at(table, r, j);
+        let v = table::operand_at(table, r, j);
         marks[v as usize] = 1;
         j += 1;
     }
@@ -92,7 +92,7 @@ fn mark_row(table: &[u32], n: u32, bodies: &[u32; 512], l: u32, r: u32, marks: &
 {
     let b = carrying::reads_of(table, bodies, r);
     if lies_in(table, n, bodies, l, b) {
-        let count = carrying::operand_count(carrying::kind_at(table, r));
+        let count = table::operand_count(table::kind_at(table, r));
         mark_operands(table, r, count, marks);
     }
 }
@@ -204,7 +204,7 @@ fn name_row(
     requires { ⌜ Passing (now table) n × Bodies (now table) n (now bodies) × (r < n) × (at + length (rowNames (now table) r) ≤ length (now nodes)) ⌝ }
     ensures { λ p. ⌜ (p ≡ at + length (rowNames (now (table .entry)) r)) × (now (nodes .exit) ≡ sets (now (nodes .entry)) at (rowNames (now (table .entry)) r)) ⌝ }
 {
-    let kind = carrying::kind_at(table, r);
+    let kind = table::kind_at(table, r);
     if kind == OP {
         forking::three(nodes, at, OP_NODE, r, 0);
         return at + 3;
@@ -257,7 +257,7 @@ fn name_starts(table: &[u32], n: u32, wires: &mut [u32]) -> usize
     let mut p: usize = 0;
     let mut r: u32 = 0;
     while r < n {
-        p = name_start(carrying::kind_at(table, r), r, wires, p);
+        p = name_start(table::kind_at(table, r), r, wires, p);
         r += 1;
     }
     p

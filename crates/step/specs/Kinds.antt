@@ -1,13 +1,13 @@
 -- The nine kinds of node: docs/RULES.md, section 'The graph', its table of kinds, with the sorts of what stands on each place.
 --
 --   Kind, kindOf                  a kind and its number
+--   columns                       the table of kinds
 --   inputs, outputs               how many places of each a kind has
 --   inputSort, outputSort         the sort of each place
 --   codes, ownSorts               which codes and sorts a row of this kind may have
 --   limit                         a word of a sort is below its limit
 --
 -- Assumes nothing.
-use mathlib.Core.Bool.{Bool, true, false}
 use mathlib.Core.Option.{Option, none, some}
 use mathlib.Core.List.{List, [], _∷_}
 use mathlib.Core.Path.{_≡_, refl}
@@ -34,101 +34,84 @@ pub data Input : Type 0 where
 pub data Output : Type 0 where
   out0 out1 : Output
 
--- STREAM start, step, bound. GATE value, condition. CARRY d, a, b. INVARIANT d, a. SPLIT flag, value. FORK value. DRAIN value. OP x, y.
--- PICK flag, x, y.
-abbrev pub inputs : Kind → ℕ
-inputs STREAM = 3
-inputs GATE = 2
-inputs CARRY = 3
-inputs INVARIANT = 2
-inputs SPLIT = 2
-inputs FORK = 1
-inputs DRAIN = 1
-inputs OP = 2
-inputs PICK = 3
+-- What stands on a place: a word of the row's own sort, a flag, or what the row's operator gives.
+pub data Place : Type 0 where
+  own flag given : Place
 
--- STREAM index, condition. GATE value, condition. CARRY o. INVARIANT o. SPLIT true leg, false leg. FORK two copies. DRAIN none. OP value.
--- PICK value.
+-- A row of the table of kinds: how many inputs and outputs a kind has, how many codes and sorts a row of it may name, and what stands on its
+-- first two inputs and its outputs. A third input has the row's sort. What is said of a place that the kind does not have, nothing reads.
+pub record Columns : Type 0 where
+  pub inputs : ℕ
+  pub outputs : ℕ
+  pub codes : ℕ
+  pub ownSorts : ℕ
+  pub in0 : Place
+  pub in1 : Place
+  pub out0 : Place
+  pub out1 : Place
+
+abbrev pub row : ℕ → ℕ → ℕ → ℕ → Place → Place → Place → Place → Columns
+row i o c s p q r t = record { inputs = i; outputs = o; codes = c; ownSorts = s; in0 = p; in1 = q; out0 = r; out1 = t }
+
+-- THE TABLE OF NODE KINDS. Inputs and outputs: STREAM start, step, bound, and index, condition. GATE value, condition, and the same. CARRY d, a, b,
+-- and o. INVARIANT d, a, and o. SPLIT flag, value, and true leg, false leg. FORK value, and two copies. DRAIN value, and none. OP x, y, and value.
+-- PICK flag, x, y, and value. A STREAM's codes are six updates by five conditions, an OP's eight operators. Conditions, `d` and the flags of SPLIT
+-- and PICK are flags.
+abbrev pub columns : Kind → Columns
+columns STREAM = row 3 2 30 1 own own own flag
+columns GATE = row 2 2 1 2 own flag own flag
+columns CARRY = row 3 1 1 2 flag own own own
+columns INVARIANT = row 2 1 1 2 flag own own own
+columns SPLIT = row 2 2 1 2 flag own own own
+columns FORK = row 1 2 1 2 own own own own
+columns DRAIN = row 1 0 1 2 own own own own
+columns OP = row 2 1 8 1 own own given given
+columns PICK = row 3 1 1 1 flag own own own
+
+-- A number that is no kind has none of each.
+abbrev pub columnsOf : Option Kind → Columns
+columnsOf none = row 0 0 0 0 own own own own
+columnsOf (some κ) = columns κ
+
+-- ---- what is read from it
+
+abbrev pub inputs : Kind → ℕ
+inputs κ = columns κ .inputs
+
 abbrev pub outputs : Kind → ℕ
-outputs STREAM = 2
-outputs GATE = 2
-outputs CARRY = 1
-outputs INVARIANT = 1
-outputs SPLIT = 2
-outputs FORK = 2
-outputs DRAIN = 0
-outputs OP = 1
-outputs PICK = 1
+outputs κ = columns κ .outputs
+
+abbrev pub codes : Kind → ℕ
+codes κ = columns κ .codes
+
+-- how many sorts a row of this kind may name
+abbrev pub ownSorts : Kind → ℕ
+ownSorts κ = columns κ .ownSorts
 
 -- '0 for words, 1 for flags': a word is below 2^32, a flag below 2.
 abbrev pub limit : ℕ → ℕ
 limit zero = wordLimit
 limit (suc s) = 2
 
--- The column 'codes': six updates by five conditions for a STREAM, eight operators for an OP, one code for the others.
-abbrev pub codes : Kind → ℕ
-codes STREAM = 30
-codes GATE = 1
-codes CARRY = 1
-codes INVARIANT = 1
-codes SPLIT = 1
-codes FORK = 1
-codes DRAIN = 1
-codes OP = 8
-codes PICK = 1
-
--- The column 'sorts of a row': how many sorts a row of this kind may name.
-abbrev pub ownSorts : Kind → ℕ
-ownSorts STREAM = 1
-ownSorts GATE = 2
-ownSorts CARRY = 2
-ownSorts INVARIANT = 2
-ownSorts SPLIT = 2
-ownSorts FORK = 2
-ownSorts DRAIN = 2
-ownSorts OP = 1
-ownSorts PICK = 1
-
--- The sort of an input place: conditions, `d` and the flags of SPLIT and PICK are flags; the rest has the row's sort.
--- A place that the kind does not have has the row's sort too; nothing reads it.
-abbrev pub inputSort : Kind → ℕ → Input → ℕ
-inputSort STREAM s k = s
-inputSort GATE s in0 = s
-inputSort GATE s in1 = 1
-inputSort GATE s in2 = s
-inputSort CARRY s in0 = 1
-inputSort CARRY s in1 = s
-inputSort CARRY s in2 = s
-inputSort INVARIANT s in0 = 1
-inputSort INVARIANT s in1 = s
-inputSort INVARIANT s in2 = s
-inputSort SPLIT s in0 = 1
-inputSort SPLIT s in1 = s
-inputSort SPLIT s in2 = s
-inputSort FORK s k = s
-inputSort DRAIN s k = s
-inputSort OP s k = s
-inputSort PICK s in0 = 1
-inputSort PICK s in1 = s
-inputSort PICK s in2 = s
-
 -- Operators 3 to 7 give a flag.
 abbrev pub operatorSort : ℕ → ℕ
 operatorSort c = pick (ltb c 3) 0 1
 
--- The sort of an output place: raw and gated conditions are flags; an operator's value has its operator's sort.
+-- the sort of what stands on a place of a row with this code and sort
+abbrev pub placeSort : Place → ℕ → ℕ → ℕ
+placeSort own c s = s
+placeSort flag c s = 1
+placeSort given c s = operatorSort c
+
+-- No input has its operator's sort, so the code is left out.
+abbrev pub inputSort : Kind → ℕ → Input → ℕ
+inputSort κ s in0 = placeSort (columns κ .in0) 0 s
+inputSort κ s in1 = placeSort (columns κ .in1) 0 s
+inputSort κ s in2 = s
+
 abbrev pub outputSort : Kind → ℕ → ℕ → Output → ℕ
-outputSort STREAM c s out0 = s
-outputSort STREAM c s out1 = 1
-outputSort GATE c s out0 = s
-outputSort GATE c s out1 = 1
-outputSort CARRY c s k = s
-outputSort INVARIANT c s k = s
-outputSort SPLIT c s k = s
-outputSort FORK c s k = s
-outputSort DRAIN c s k = s
-outputSort OP c s k = operatorSort c
-outputSort PICK c s k = s
+outputSort κ c s out0 = placeSort (columns κ .out0) c s
+outputSort κ c s out1 = placeSort (columns κ .out1) c s
 
 -- ---- laws
 

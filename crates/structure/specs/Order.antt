@@ -9,11 +9,11 @@ use mathlib.Core.Path.{_≡_, refl, sym, _∙_, subst}
 use native.Mathlib.Omega.{arith}
 use native.Mathlib.Decide.{ℕ-discrete}
 use borrow.Author.Tests.{eqb-true, ltb-true, leb-true}
-use lib.Dec.{eqb, leb}
+use lib.Dec.{eqb, leb, ltb}
 use lib.ListN.{length}
-use Rattle.table.specs.Rows.{kindOf, word, size}
+use Rattle.table.specs.Rows.{kindOf, word, size, fieldAt}
 use Rattle.table.specs.Scan.{Loop, oneArg, oneNext, atHead, outward, stackAt}
-use Rattle.table.specs.Check.{lengthRight, kindRight, codeRight, depthRight, kindBefore, outside, endRight}
+use Rattle.table.specs.Check.{lengthRight, kindRight, codesFrom, codeRight, depthRight, kindBefore, outside, endRight}
 use Rattle.table.specs.Right.{TableRight}
 use Rattle.structure.specs.Place.{both, behind-out, start-behind, out-is-outside, Move, opens, counts, serves, closes, stays, move, stack-opens, stack-arg, stack-next, stack-closes, stack-stays}
 
@@ -109,11 +109,16 @@ module _ (t : List ℕ) (ok : TableRight t) where
       go h (stays n4 n5 n6 n7) = rw (stack-stays t r n4 n5 n6 n7) h
 
   pub op-code : (r : ℕ) → r < size t → kindOf t r ≡ 2 → word t r 1 ≤ 7
-  unfolding codeRight
-  op-code r less k = leb-true (word t r 1) 7 (rw k at (ok .row r less .code))
+  unfolding fieldAt codesFrom codeRight
+  op-code r less k =
+      let p = both (ltb (word t r 1) 8) true (rw k at (ok .row r less .code)) in
+      let a = ltb-true (word t r 1) 8 (p .0) in
+      omega arith
 
   pub for-codes : (r : ℕ) → r < size t → kindOf t r ≡ 4 → (word t r 4 ≤ 5) × (word t r 5 ≤ 4)
-  unfolding codeRight
+  unfolding fieldAt codesFrom codeRight
   for-codes r less k =
-      let p = both (leb (word t r 4) 5) (leb (word t r 5) 4) (rw k at (ok .row r less .code)) in
-      (leb-true (word t r 4) 5 (p .0), leb-true (word t r 5) 4 (p .1))
+      let p = both (ltb (word t r 4) 6) (ltb (word t r 5) 5 && true) (rw k at (ok .row r less .code)) in
+      let d = ltb-true (word t r 4) 6 (p .0) in
+      let e = ltb-true (word t r 5) 5 (both (ltb (word t r 5) 5) true (p .1) .0) in
+      (omega arith, omega arith)

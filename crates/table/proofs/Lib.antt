@@ -1,4 +1,5 @@
 -- The laws that the proofs of the functions cite.
+pub mod Words
 pub mod Loops
 pub mod Visible
 pub mod Noting

@@ -15,10 +15,10 @@ use native.Mathlib.Decide.{ℕ-discrete, decLt}
 use borrow.Author.Tests.{eq-eqb, ne-eqb, lt-ltb, le-ltb, le-leb, lt-leb, eqb-false, leb-false, ltb-false}
 use lib.Dec.{eqb, leb, ltb}
 use lib.ListN.{length}
-use Rattle.table.specs.Rows.{kindOf, word, size, CONST, OP, FOR, ARG, NEXT, END, OUT, usedWords, operandCount, firstOperand, sortOf, wantedSort}
+use Rattle.table.specs.Rows.{Field, spare, value, code, names, allows, fieldAt, kindOf, word, size, CONST, FOR, ARG, NEXT, END, OUT, usedWords, operandCount, firstOperand, sortOf, wantedSort, first-is-a-or-b}
 use Rattle.table.specs.Scan.{Loop, stackAt, bodyOf, readStack, home, bodyOpen, endPassed, visible}
 use Rattle.table.specs.Bodies.{nextsIn}
-use Rattle.table.specs.Check.{LENGTH, KIND, SPARE, CODE, PLACE, DEPTH, NAME, TYPE, OPEN, zerosFrom, spareRight, codeRight, kindBefore, follows, argLeft, allServed, outside, stands, placeRight, lengthRight, kindRight, depthRight, endRight, orElse, rowRefusal, Refusal, answer, rowsFrom, tableRefusal, namesFrom, namesRight, typesFrom, typesRight}
+use Rattle.table.specs.Check.{LENGTH, KIND, SPARE, CODE, PLACE, DEPTH, NAME, TYPE, OPEN, zerosFrom, spareRight, isCode, codesFrom, codeRight, kindBefore, follows, argLeft, allServed, outside, stands, placeRight, lengthRight, kindRight, depthRight, endRight, orElse, rowRefusal, Refusal, answer, rowsFrom, tableRefusal, namesFrom, namesRight, typesFrom, typesRight}
 use Rattle.table.specs.Clauses.{argsIn, lengthFault, detail, loopDetail, nameDetail, explained, Told, firstFrom, isZero, spareWord, codeWord, followsFault, nextFault, endFault, standsFault, placeFault, sight, hiddenBody, isSeen, hiddenWord, isSorted, mistypedWord}
 
 -- one word more: the first failing word is k itself, or a later one
@@ -36,18 +36,15 @@ pub spare-told : (t : List ℕ) (r : ℕ) → spareRight t r ≡ eqb (spareWord 
 unfolding spareRight spareWord
 spare-told t r = zeros-first t r (5 - usedWords (kindOf t r)) (usedWords (kindOf t r) + 1) (omega arith)
 
+codes-first : (t : List ℕ) (r m k : ℕ) → 1 ≤ k → codesFrom m t r k ≡ eqb (firstFrom (isCode t r) m k) 0
+unfolding codesFrom firstFrom
+codes-first t r zero k h = refl
+codes-first t r (suc m) k h = one-more (isCode t r k) _ _ k h (codes-first t r m (k + 1) (omega arith))
+
 -- 4 LIKEWISE
 pub code-told : (t : List ℕ) (r : ℕ) → codeRight t r ≡ eqb (codeWord t r) 0
 unfolding codeRight codeWord
-code-told t r = go (eqb (kindOf t r) OP) (leb (word t r 1) 7) (eqb (kindOf t r) FOR) (leb (word t r 4) 5) (leb (word t r 5) 4)
-  where
-    go : (o a f d e : Bool) → cond o a (cond f (d && e) true) ≡ eqb (cond o (cond a 0 1) (cond f (cond d (cond e 0 5) 4) 0)) 0
-    go true true f d e = refl
-    go true false f d e = refl
-    go false a true true true = refl
-    go false a true true false = refl
-    go false a true false e = refl
-    go false a false d e = refl
+code-told t r = codes-first t r 5 1 (omega arith)
 
 follows-told : (b k : ℕ) → follows b k ≡ eqb (followsFault b k) 0
 unfolding follows followsFault
@@ -121,23 +118,14 @@ unfolding typesFrom firstFrom
 types-first t r zero k h = refl
 types-first t r (suc m) k h = one-more (isSorted t r k) _ _ k h (types-first t r m (k + 1) (omega arith))
 
--- the first operand is no kind
-operand-stands : (kind : ℕ) → 1 ≤ firstOperand kind
-unfolding firstOperand
-operand-stands kind = go (eqb kind OP)
-  where
-    go : (b : Bool) → 1 ≤ cond b 2 1
-    go true = omega arith
-    go false = omega arith
-
 -- 7 AND 8 LIKEWISE
 pub names-told : (t : List ℕ) (r : ℕ) → namesRight t r ≡ eqb (hiddenWord t r) 0
 unfolding namesRight hiddenWord
-names-told t r = names-first t r (operandCount (kindOf t r)) (firstOperand (kindOf t r)) (operand-stands (kindOf t r))
+names-told t r = names-first t r (operandCount (kindOf t r)) (firstOperand (kindOf t r)) (first-is-a-or-b (kindOf t r) .0)
 
 pub types-told : (t : List ℕ) (r : ℕ) → typesRight t r ≡ eqb (mistypedWord t r) 0
 unfolding typesRight mistypedWord
-types-told t r = types-first t r (operandCount (kindOf t r)) (firstOperand (kindOf t r)) (operand-stands (kindOf t r))
+types-told t r = types-first t r (operandCount (kindOf t r)) (firstOperand (kindOf t r)) (first-is-a-or-b (kindOf t r) .0)
 
 -- ---- what each fault says
 
@@ -175,9 +163,7 @@ pub data Broken (t : List ℕ) (number r fault k body : ℕ) : Type 0 where
   many-rows : number ≡ LENGTH → fault ≡ 3 → 512 < size t → Broken t number r fault k body
   no-kind : number ≡ KIND → OUT < kindOf t r → Broken t number r fault k body
   spare-word : number ≡ SPARE → usedWords (kindOf t r) < k → k ≤ 5 → (word t r k ≡ 0 → ⊥) → Broken t number r fault k body
-  operator : number ≡ CODE → kindOf t r ≡ OP → k ≡ 1 → 7 < word t r k → Broken t number r fault k body
-  update : number ≡ CODE → kindOf t r ≡ FOR → k ≡ 4 → 5 < word t r k → Broken t number r fault k body
-  condition : number ≡ CODE → kindOf t r ≡ FOR → k ≡ 5 → 4 < word t r k → Broken t number r fault k body
+  no-code : (n : ℕ) → number ≡ CODE → fieldAt (kindOf t r) k ≡ code n → n ≤ word t r k → Broken t number r fault k body
   place-behind : number ≡ PLACE → Behind (kindBefore t r) (kindOf t r) fault → Broken t number r fault k body
   place-among : number ≡ PLACE → body ≡ bodyOf t r → Among (kindOf t r) (stackAt t r) fault → Broken t number r fault k body
   nine-deep : number ≡ DEPTH → body ≡ bodyOf t r → kindOf t r ≡ FOR → 8 ≤ length (stackAt t r) → Broken t number r fault k body
@@ -310,24 +296,18 @@ spare-says t r f =
 
 code-says : (t : List ℕ) (r : ℕ) → codeRight t r ≡ false → Broken t CODE r 0 (codeWord t r) 0
 unfolding codeWord
-code-says t r f = let n = fails {x = codeWord t r} (code-told t r) f in
-    elim (ℕ-discrete (kindOf t r) OP) [
-      | yes o ↦ elim (decLt 7 (word t r 1)) [
-        | yes l ↦ let e : codeWord t r ≡ 1 = rw (eq-eqb (kindOf t r) OP o, lt-leb (word t r 1) 7 l) in operator refl o e (rw e l)
-        | no l ↦ absurd (n (rw (eq-eqb (kindOf t r) OP o, le-leb (word t r 1) 7 (omega arith))))
-      ]
-      | no o ↦ elim (ℕ-discrete (kindOf t r) FOR) [
-        | no x ↦ absurd (n (rw (ne-eqb (kindOf t r) OP o, ne-eqb (kindOf t r) FOR x)))
-        | yes x ↦ elim (decLt 5 (word t r 4)) [
-          | yes l ↦ let e : codeWord t r ≡ 4 = rw (ne-eqb (kindOf t r) OP o, eq-eqb (kindOf t r) FOR x, lt-leb (word t r 4) 5 l) in update refl x e (rw e l)
-          | no l ↦ elim (decLt 4 (word t r 5)) [
-            | yes m ↦ let e : codeWord t r ≡ 5 = rw (ne-eqb (kindOf t r) OP o, eq-eqb (kindOf t r) FOR x, le-leb (word t r 4) 5 (omega arith), lt-leb (word t r 5) 4 m) in
-                condition refl x e (rw e m)
-            | no m ↦ absurd (n (rw (ne-eqb (kindOf t r) OP o, eq-eqb (kindOf t r) FOR x, le-leb (word t r 4) 5 (omega arith), le-leb (word t r 5) 4 (omega arith))))
-          ]
-        ]
-      ]
-    ]
+code-says t r f =
+    let h = first-fails (isCode t r) 5 1 (fails (code-told t r) f) in
+    go (fieldAt (kindOf t r) (codeWord t r)) refl (h .0)
+  where
+    some-word : true ≡ false → Broken t CODE r 0 (codeWord t r) 0
+    some-word z = let y : _≡_ {A = ℕ} 0 1 = ap (λ b. cond b 0 1) z in absurd (omega arith)
+
+    go : (u : Field) → fieldAt (kindOf t r) (codeWord t r) ≡ u → allows u (word t r (codeWord t r)) ≡ false → Broken t CODE r 0 (codeWord t r) 0
+    go spare e z = some-word z
+    go value e z = some-word z
+    go (code n) e z = no-code n refl e (ltb-false _ n z)
+    go (names s) e z = some-word z
 
 place-says : (t : List ℕ) (r : ℕ) → placeRight t r ≡ false → Broken t PLACE r (placeFault t r) 0 (bodyOf t r)
 unfolding placeFault

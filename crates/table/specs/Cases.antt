@@ -5,9 +5,9 @@ use Prim.Native.Nat.{ℕ, zero, suc}
 use mathlib.Core.Path.{_≡_, refl}
 use mathlib.Core.Bool.{true}
 use mathlib.Core.List.{List, [], _∷_}
-use Rattle.table.specs.Rows.{usedWords, operandCount, firstOperand, sortOf, wantedSort}
+use Rattle.table.specs.Rows.{fieldAt, usedWords, operandCount, firstOperand, sortOf, wantedSort}
 use Rattle.table.specs.Scan.{after, stackAt, bodyOf, readStack, reads, homeBy, home, bodyOpen, endPassed, visible}
-use Rattle.table.specs.Check.{lengthRight, kindRight, zerosFrom, spareRight, codeRight, follows, stands, placeRight, depthRight, namesFrom, namesRight, typesFrom, typesRight, endRight, rowRefusal, answer, rowsFrom, tableRefusal}
+use Rattle.table.specs.Check.{lengthRight, kindRight, zerosFrom, spareRight, codesFrom, codeRight, follows, stands, placeRight, depthRight, namesFrom, namesRight, typesFrom, typesRight, endRight, rowRefusal, answer, rowsFrom, tableRefusal}
 
 -- one row in front of a table
 abbrev pub row6 : ℕ → ℕ → ℕ → ℕ → ℕ → ℕ → List ℕ → List ℕ
@@ -71,7 +71,7 @@ consts (suc m) = const 7 (consts m)
 
 -- everything that a refusal computes with
 check-computes : ℕ
-unfolding usedWords operandCount firstOperand sortOf wantedSort after stackAt bodyOf readStack reads homeBy home bodyOpen endPassed visible lengthRight kindRight zerosFrom spareRight codeRight follows stands placeRight depthRight namesFrom namesRight typesFrom typesRight endRight rowRefusal rowsFrom tableRefusal
+unfolding usedWords operandCount firstOperand sortOf wantedSort after stackAt bodyOf readStack reads homeBy home bodyOpen endPassed visible lengthRight kindRight zerosFrom spareRight fieldAt codesFrom codeRight follows stands placeRight depthRight namesFrom namesRight typesFrom typesRight endRight rowRefusal rowsFrom tableRefusal
 check-computes = 0
 
 -- The register's tables pass.

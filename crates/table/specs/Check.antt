@@ -7,7 +7,7 @@ use mathlib.Core.Bool.{Bool, true, false, cond, _&&_, _||_}
 use mathlib.Core.List.{List, [], _∷_}
 use lib.Dec.{eqb, leb, ltb}
 use lib.ListN.{length}
-use Rattle.table.specs.Rows.{kindOf, word, size, INPUT, CONST, OP, FOR, ARG, NEXT, END, OUT, usedWords, operandCount, firstOperand, sortOf, wantedSort}
+use Rattle.table.specs.Rows.{kindOf, word, size, INPUT, CONST, FOR, ARG, NEXT, END, OUT, allows, fieldAt, usedWords, operandCount, firstOperand, sortOf, wantedSort}
 use Rattle.table.specs.Scan.{Loop, stackAt, visible}
 
 -- the numbers
@@ -54,11 +54,17 @@ zerosFrom (suc m) t r k = eqb (word t r k) 0 && zerosFrom m t r (k + 1)
 unfoldable pub spareRight : List ℕ → ℕ → Bool
 spareRight t r = zerosFrom (5 - usedWords (kindOf t r)) t r (usedWords (kindOf t r) + 1)
 
--- 4 CODE: 'OP's a is at most 7; FOR's d is at most 5 and its e at most 4'
+-- 4 CODE: 'OP's a is at most 7; FOR's d is at most 5 and its e at most 4', as the table of row kinds says of each word. So many words of row r,
+-- from word k up, are codes where their kind has codes.
+abbrev pub isCode : List ℕ → ℕ → ℕ → Bool
+isCode t r k = allows (fieldAt (kindOf t r) k) (word t r k)
+
+unfoldable pub codesFrom : ℕ → List ℕ → ℕ → ℕ → Bool
+codesFrom zero t r k = true
+codesFrom (suc m) t r k = isCode t r k && codesFrom m t r (k + 1)
+
 unfoldable pub codeRight : List ℕ → ℕ → Bool
-codeRight t r =
-    cond (eqb (kindOf t r) OP) (leb (word t r 1) 7)
-    (cond (eqb (kindOf t r) FOR) (leb (word t r 4) 5 && leb (word t r 5) 4) true)
+codeRight t r = codesFrom 5 t r 1
 
 -- 5 PLACE. The kind of the row before; the first row stands as if behind an INPUT.
 abbrev pub kindBefore : List ℕ → ℕ → ℕ

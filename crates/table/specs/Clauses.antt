@@ -13,10 +13,10 @@ use mathlib.Core.List.{List, [], _∷_}
 use mathlib.Core.Path.{_≡_}
 use lib.Dec.{eqb, leb, ltb}
 use lib.ListN.{length}
-use Rattle.table.specs.Rows.{kindOf, word, size, CONST, OP, FOR, ARG, NEXT, END, OUT, usedWords, operandCount, firstOperand, sortOf, wantedSort}
+use Rattle.table.specs.Rows.{kindOf, word, size, CONST, FOR, ARG, NEXT, END, OUT, usedWords, operandCount, firstOperand, sortOf, wantedSort}
 use Rattle.table.specs.Scan.{Loop, stackAt, bodyOf, readStack, home, bodyOpen, endPassed}
 use Rattle.table.specs.Bodies.{nextsIn}
-use Rattle.table.specs.Check.{LENGTH, SPARE, CODE, PLACE, DEPTH, NAME, TYPE, OPEN, kindBefore, outside, answer, tableRefusal}
+use Rattle.table.specs.Check.{LENGTH, SPARE, CODE, PLACE, DEPTH, NAME, TYPE, OPEN, isCode, kindBefore, outside, answer, tableRefusal}
 
 -- the first of so many words, from word k up, that fails a test; 0 where none does
 unfoldable pub firstFrom : (ℕ → Bool) → ℕ → ℕ → ℕ
@@ -32,9 +32,7 @@ spareWord t r = firstFrom (isZero t r) (5 - usedWords (kindOf t r)) (usedWords (
 
 -- 4 CODE
 unfoldable pub codeWord : List ℕ → ℕ → ℕ
-codeWord t r =
-    cond (eqb (kindOf t r) OP) (cond (leb (word t r 1) 7) 0 1)
-    (cond (eqb (kindOf t r) FOR) (cond (leb (word t r 4) 5) (cond (leb (word t r 5) 4) 0 5) 4) 0)
+codeWord t r = firstFrom (isCode t r) 5 1
 
 -- 5 PLACE. By the row before: 1 something behind an OUT, 2 neither NEXT nor END behind a NEXT, 3 an INPUT or CONST behind another kind,
 -- 4 an ARG behind neither FOR nor ARG.

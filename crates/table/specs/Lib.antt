@@ -1,5 +1,6 @@
 -- Loop tables: rows, the scan, the refusals 1 to 9, and the cases that compute.
 pub mod Rows
+pub mod Said
 pub mod Scan
 pub mod Bodies
 pub mod Check

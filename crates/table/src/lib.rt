@@ -6,9 +6,10 @@ ghost use mathlib.Core.Bool.{true, cond};
 ghost use lib.Dec.{eqb, ltb};
 ghost use mathlib.Core.List.{[], _∷_};
 ghost use lib.ListN.{length, getD};
-ghost use Rattle.table.specs.Rows.{kindOf, word, size, usedWords, operandCount, firstOperand, sortOf, wantedSort};
+ghost use Rattle.table.specs.Rows.{kindOf, word, size, inUse, named, coded, allows, fieldsOf, fieldAt, usedWords, operandCount, firstOperand, sortOf, wantedSort};
+ghost use Rattle.table.specs.Said.{fieldOf, said};
 ghost use Rattle.table.specs.Scan.{after, inner, homeBy, holds, bodyOpen, stackAt};
-ghost use Rattle.table.specs.Bodies.{nextsIn};
+ghost use Rattle.table.specs.Bodies.{nextsIn, operand};
 ghost use Rattle.table.specs.Check.{kindBefore, outside, depthRight, endRight, rowRefusal, answer, rowsFrom, tableRefusal};
 ghost use Rattle.table.specs.Clauses.{spareWord, codeWord, followsFault, argsIn, nextFault, endFault, standsFault, placeFault, sight, hiddenWord, mistypedWord, detail, nameDetail, explained, Told};
 ghost use Rattle.table.specs.Kept.{entryOf, openLoops, depthAfter, Counted, Noted};
@@ -90,76 +91,186 @@ pub const UNCLOSED: u32 = 1;
 
 pub const OUTLESS: u32 = 2;
 
-fn used_words(kind: u32) -> u32
-    ensures { λ r. ⌜ (r ≡ usedWords kind) × (r ≤ 5) ⌝ }
+// What a word of a row is. The number of a code is CODES and how many codes there are.
+const UNUSED: u32 = 0;
+
+const ANY: u32 = 1;
+
+const WORD: u32 = 2;
+
+const FLAG: u32 = 3;
+
+const CODES: u32 = 4;
+
+const OPERATORS: u32 = CODES + 8;
+
+const UPDATES: u32 = CODES + 6;
+
+const CONDITIONS: u32 = CODES + 5;
+
+// The first operator that compares and so gives a flag.
+const COMPARISONS: u32 = 3;
+
+// What the words a to e of a kind are.
+struct Fields {
+    a: u32,
+    b: u32,
+    c: u32,
+    d: u32,
+    e: u32,
+}
+
+fn said(a: u32, b: u32, c: u32, d: u32, e: u32) -> Fields
+    ensures { λ u. ⌜ said (u .a) (u .b) (u .c) (u .d) (u .e) ≡ said a b c d e ⌝ }
+{
+    Fields { a, b, c, d, e }
+}
+
+// The table of row kinds. What follows is read from it.
+fn fields_of(kind: u32) -> Fields
+    ensures { λ u. ⌜ said (u .a) (u .b) (u .c) (u .d) (u .e) ≡ fieldsOf kind ⌝ }
 {
     match kind {
-        INPUT => 0,
-        END => 0,
-        OP => 3,
-        PICK => 3,
-        FOR => 5,
+        INPUT => said(UNUSED, UNUSED, UNUSED, UNUSED, UNUSED),
+        CONST => said(ANY, UNUSED, UNUSED, UNUSED, UNUSED),
+        OP => said(OPERATORS, WORD, WORD, UNUSED, UNUSED),
+        PICK => said(FLAG, WORD, WORD, UNUSED, UNUSED),
+        FOR => said(WORD, WORD, WORD, UPDATES, CONDITIONS),
+        ARG => said(WORD, UNUSED, UNUSED, UNUSED, UNUSED),
+        NEXT => said(WORD, UNUSED, UNUSED, UNUSED, UNUSED),
+        END => said(UNUSED, UNUSED, UNUSED, UNUSED, UNUSED),
+        OUT => said(WORD, UNUSED, UNUSED, UNUSED, UNUSED),
+        _ => said(UNUSED, UNUSED, UNUSED, UNUSED, UNUSED),
+    }
+}
+
+fn in_use(u: u32) -> u32
+    ensures { λ r. ⌜ (r ≡ inUse (fieldOf u)) × (r ≤ 1) ⌝ }
+{
+    match u {
+        UNUSED => 0,
         _ => 1,
     }
 }
 
-fn operand_count(kind: u32) -> u32
-    ensures { λ r. ⌜ (r ≡ operandCount kind) × (r ≤ 3) ⌝ }
+fn named(u: u32) -> u32
+    ensures { λ r. ⌜ (r ≡ named (fieldOf u)) × (r ≤ 1) ⌝ }
 {
-    match kind {
-        OP => 2,
-        PICK => 3,
-        FOR => 3,
-        ARG => 1,
-        NEXT => 1,
-        OUT => 1,
+    match u {
+        WORD => 1,
+        FLAG => 1,
         _ => 0,
     }
 }
 
-fn first_operand(kind: u32) -> u32
-    ensures { λ r. ⌜ (r ≡ firstOperand kind) × (1 ≤ r) × (r ≤ 2) ⌝ }
+fn coded(u: u32) -> u32
+    ensures { λ r. ⌜ (r ≡ coded (fieldOf u)) × (r ≤ 1) ⌝ }
 {
-    if kind == OP { 2 } else { 1 }
+    if u < CODES { 0 } else { 1 }
 }
 
+// Whether a word may stand there, as far as codes go.
+fn allows(u: u32, word: u32) -> bool
+    ensures { λ r. ⌜ r ≡ allows (fieldOf u) word ⌝ }
+{
+    if u < CODES {
+        return true;
+    }
+    word < u - CODES
+}
+
+fn used_words(kind: u32) -> u32
+    ensures { λ r. ⌜ (r ≡ usedWords kind) × (r ≤ 5) ⌝ }
+{
+    let u = fields_of(kind);
+    in_use(u.a) + in_use(u.b) + in_use(u.c) + in_use(u.d) + in_use(u.e)
+}
+
+// How many values a row of this kind names.
+pub fn operand_count(kind: u32) -> u32
+    ensures { λ r. ⌜ (r ≡ operandCount kind) × (r ≤ 3) ⌝ }
+{
+    let u = fields_of(kind);
+    named(u.a) + named(u.b) + named(u.c) + named(u.d) + named(u.e)
+}
+
+// The word in which the first of them stands.
+pub fn first_operand(kind: u32) -> u32
+    ensures { λ r. ⌜ (r ≡ firstOperand kind) × (1 ≤ r) × (r ≤ 2) ⌝ }
+{
+    1 + coded(fields_of(kind).a)
+}
+
+fn field_at(kind: u32, k: u32) -> u32
+    ensures { λ u. ⌜ fieldOf u ≡ fieldAt kind k ⌝ }
+{
+    let u = fields_of(kind);
+    match k {
+        1 => u.a,
+        2 => u.b,
+        3 => u.c,
+        4 => u.d,
+        5 => u.e,
+        _ => UNUSED,
+    }
+}
+
+// The sort that word k of a row of this kind has to name: 1 for a flag.
 fn wanted_sort(kind: u32, k: u32) -> u32
     ensures { λ r. ⌜ r ≡ wantedSort kind k ⌝ }
 {
-    if kind == PICK {
-        if k == 1 {
-            return 1;
-        }
+    match field_at(kind, k) {
+        FLAG => 1,
+        _ => 0,
     }
-    0
 }
 
-fn kind_at(table: &[u32], r: u32) -> u32
+pub fn kind_at(table: &[u32], r: u32) -> u32
     requires { ⌜ (r < size (now table)) × (r < 512) ⌝ }
     ensures { λ k. ⌜ k ≡ kindOf (now (table .entry)) r ⌝ }
 {
     table[(6 * r) as usize]
 }
 
-fn word_at(table: &[u32], r: u32, k: u32) -> u32
+pub fn word_at(table: &[u32], r: u32, k: u32) -> u32
     requires { ⌜ (r < size (now table)) × (r < 512) × (k < 6) ⌝ }
     ensures { λ w. ⌜ w ≡ word (now (table .entry)) r k ⌝ }
 {
     table[(6 * r + k) as usize]
 }
 
+// The sort of row v's value: 1 for a condition's flag, else 0.
+pub fn sort_at(table: &[u32], v: u32) -> u32
+    requires { ⌜ (v < size (now table)) × (v < 512) ⌝ }
+    ensures { λ s. ⌜ s ≡ sortOf (now (table .entry)) v ⌝ }
+{
+    if kind_at(table, v) == OP {
+        if word_at(table, v, 1) >= COMPARISONS {
+            return 1;
+        }
+        return 0;
+    }
+    0
+}
+
+// The same of any number; what is no row has the sort 0.
 fn sort_of(table: &[u32], n: u32, v: u32) -> u32
     requires { ⌜ (length (now table) ≡ 6 * n) × (n ≤ 512) ⌝ }
     ensures { λ s. ⌜ s ≡ sortOf (now (table .entry)) v ⌝ }
 {
     if v < n {
-        if kind_at(table, v) == OP {
-            if word_at(table, v, 1) >= 3 {
-                return 1;
-            }
-        }
+        return sort_at(table, v);
     }
     0
+}
+
+// The j-th operand of row r.
+pub fn operand_at(table: &[u32], r: u32, j: u32) -> u32
+    requires { ⌜ (r < size (now table)) × (r < 512) × (j < 3) ⌝ }
+    ensures { λ w. ⌜ w ≡ operand (now (table .entry)) r j ⌝ }
+{
+    let k = first_operand(kind_at(table, r)) + j;
+    table[(6 * r + k) as usize]
 }
 
 // The fault where what should hold does not.
@@ -219,21 +330,23 @@ fn spare_word(table: &[u32], r: u32) -> u32
     0
 }
 
+// Word k where it is not right, else what is told of the words behind it.
+fn told_word(right: bool, k: u32, later: u32) -> u32
+    ensures { λ r. ⌜ r ≡ cond right later k ⌝ }
+{
+    if right { later } else { k }
+}
+
 fn code_word(table: &[u32], r: u32) -> u32
     requires { ⌜ (r < size (now table)) × (r < 512) ⌝ }
     ensures { λ w. ⌜ w ≡ codeWord (now (table .entry)) r ⌝ }
 {
-    let kind = kind_at(table, r);
-    if kind == OP {
-        return unless(word_at(table, r, 1) <= 7, 1);
-    }
-    if kind == FOR {
-        if word_at(table, r, 4) <= 5 {
-            return unless(word_at(table, r, 5) <= 4, 5);
-        }
-        return 4;
-    }
-    0
+    let u = fields_of(kind_at(table, r));
+    let e = told_word(allows(u.e, word_at(table, r, 5)), 5, 0);
+    let d = told_word(allows(u.d, word_at(table, r, 4)), 4, e);
+    let c = told_word(allows(u.c, word_at(table, r, 3)), 3, d);
+    let b = told_word(allows(u.b, word_at(table, r, 2)), 2, c);
+    told_word(allows(u.a, word_at(table, r, 1)), 1, b)
 }
 
 // Number j of entry d: 0 its first row, 1 its ARGs, 2 its NEXTs.

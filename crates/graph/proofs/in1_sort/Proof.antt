@@ -1,16 +1,20 @@
--- `graph::in1_sort` meets its contract. One need for GATE, one for all else.
--- Assumes nothing.
-use Rattle.step.specs.Kinds.{kindOf}
-use Rattle.graph.proofs.Sorts.{in1-else}
+-- `graph::in1_sort` meets its contract. One column of the table of kinds. Assumes nothing.
+use Rattle.graph.proofs.Table.{in1-read}
+use Rattle.step.specs.Kinds.{Columns, kindOf, placeSort}
+use mathlib.Core.Path.{ap, _∙_}
+use borrow.Author.Needs.{needs}
 use Rattle.graph.proofs.in1_sort.Statement.{statement}
 use Rattle.graph.proofs.in1_sort.Tie as tie
 
-returns : tie.Need-returns
-unfolding kindOf
-returns c = rw (c .match .keys1)
+columns-of-requires : tie.Need-columns-of-requires
+columns-of-requires c κs = search needs
 
-returns-2 : tie.Need-returns-2
-returns-2 c = in1-else _ _ (c .match .rest .1)
+place-sort-requires : tie.Need-place-sort-requires
+place-sort-requires c κs = search needs
+
+returns : tie.Need-returns
+returns c = let s = c .before .before .args .sort in
+    c .place-sort .ensures ∙ ap (λ (x : Columns). placeSort (x .in1) 0 s) (c .before .columns-of .ensures) ∙ in1-read (kindOf (c .before .before .args .kind)) s
 
 pub in1-sort-spec : {M : Type 1} → statement M
-in1-sort-spec = tie.close (tie.spec returns returns-2)
+in1-sort-spec = tie.close (tie.spec columns-of-requires place-sort-requires returns)

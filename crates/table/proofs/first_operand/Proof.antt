@@ -1,17 +1,25 @@
--- `table::first_operand` meets its contract. The test of the kind fixes the word. Assumes nothing.
-use native.Mathlib.Omega.{arith}
-use borrow.Author.Tests.{ne-eqb}
-use Rattle.table.specs.Rows.{firstOperand}
+-- `table::first_operand` meets its contract. Word a, or b behind a code. Assumes nothing.
+use Rattle.table.proofs.Words.{first-said}
+use Rattle.table.specs.Rows.{Fields, firstOperand, first-is-a-or-b}
+use Prim.Native.Nat.{ℕ, _+_, _≤_}
+use mathlib.Core.Path.{_≡_, sym, ap, subst}
+use borrow.Author.Needs.{needs}
 use Rattle.table.proofs.first_operand.Statement.{statement}
 use Rattle.table.proofs.first_operand.Tie as tie
 
-returns : tie.Need-returns
-unfolding firstOperand
-returns c = (rw (c .if1 .taken), omega arith, omega arith)
+fields-of-requires : tie.Need-fields-of-requires
+fields-of-requires c κs = search needs
 
-returns-2 : tie.Need-returns-2
-unfolding firstOperand
-returns-2 c = (rw (ne-eqb _ 2 (c .if1 .left)), omega arith, omega arith)
+coded-requires : tie.Need-coded-requires
+coded-requires c κs = search needs
+
+add-result : tie.Need-add-result
+add-result c = search needs
+
+returns : tie.Need-returns
+returns c = let k = c .before .before .args .kind in
+    let e : 1 + c .coded .result ≡ firstOperand k = first-said k (c .before .fields-of .result .a) (c .coded .ensures .0) (ap (λ (u : Fields). u .a) (c .before .fields-of .ensures)) in
+    let b = first-is-a-or-b k in (e, subst (λ (x : ℕ). 1 ≤ x) (sym e) (b .0), subst (λ (x : ℕ). x ≤ 2) (sym e) (b .1))
 
 pub first-operand-spec : {M : Type 1} → statement M
-first-operand-spec = tie.close (tie.spec returns returns-2)
+first-operand-spec = tie.close (tie.spec fields-of-requires coded-requires add-result returns)

@@ -1,39 +1,61 @@
--- `table::operand_count` meets its contract. Arm by arm: the kind fixes the count. Assumes nothing.
-use native.Mathlib.Omega.{arith}
-use borrow.Author.Tests.{ne-eqb}
-use Rattle.table.specs.Rows.{operandCount}
+-- `table::operand_count` meets its contract. The operands among the five words. Assumes nothing.
+use Rattle.table.proofs.Words.{counted}
+use Rattle.table.specs.Rows.{named, operandCount, at-most-three}
+use Prim.Native.Nat.{ℕ, _≤_}
+use mathlib.Core.Path.{sym, subst}
+use borrow.Author.Needs.{needs}
 use Rattle.table.proofs.operand_count.Statement.{statement}
 use Rattle.table.proofs.operand_count.Tie as tie
 
+fields-of-requires : tie.Need-fields-of-requires
+fields-of-requires c κs = search needs
+
+named-requires : tie.Need-named-requires
+named-requires c κs = search needs
+
+named-requires-2 : tie.Need-named-requires-2
+named-requires-2 c κs = search needs
+
+add-result : tie.Need-add-result
+add-result c = search needs
+
+named-requires-3 : tie.Need-named-requires-3
+named-requires-3 c κs = search needs
+
+add-result-2 : tie.Need-add-result-2
+add-result-2 c = search needs
+
+named-requires-4 : tie.Need-named-requires-4
+named-requires-4 c κs = search needs
+
+add-result-3 : tie.Need-add-result-3
+add-result-3 c = search needs
+
+named-requires-5 : tie.Need-named-requires-5
+named-requires-5 c κs = search needs
+
+add-result-4 : tie.Need-add-result-4
+add-result-4 c = search needs
+
 returns : tie.Need-returns
 unfolding operandCount
-returns c = (rw (c .match .keys1), omega arith)
-
-returns-2 : tie.Need-returns-2
-unfolding operandCount
-returns-2 c = (rw (c .match .keys2), omega arith)
-
-returns-3 : tie.Need-returns-3
-unfolding operandCount
-returns-3 c = (rw (c .match .keys3), omega arith)
-
-returns-4 : tie.Need-returns-4
-unfolding operandCount
-returns-4 c = (rw (c .match .keys4), omega arith)
-
-returns-5 : tie.Need-returns-5
-unfolding operandCount
-returns-5 c = (rw (c .match .keys5), omega arith)
-
-returns-6 : tie.Need-returns-6
-unfolding operandCount
-returns-6 c = (rw (c .match .keys6), omega arith)
-
-returns-7 : tie.Need-returns-7
-unfolding operandCount
-returns-7 c = let r = c .match .rest in
-    (simp (ne-eqb _ 2 (r .0 .0 .0 .0 .0 .1), ne-eqb _ 3 (r .0 .0 .0 .0 .1), ne-eqb _ 4 (r .0 .0 .0 .1), ne-eqb _ 5 (r .0 .0 .1), ne-eqb _ 6 (r .0 .1), ne-eqb _ 8 (r .1)), omega arith)
+returns c = let u = c .before .before .before .before .before .fields-of .result in
+    let k = c .before .before .before .before .before .before .args .kind in
+    let e = counted named (u .a) (u .b) (u .c) (u .d) (u .e) k (c .before .before .before .before .before .fields-of .ensures) (c .before .before .before .before .named .ensures .0) (c .before .before .before .named2 .ensures .0) (c .before .before .named3 .ensures .0) (c .before .named4 .ensures .0) (c .named5 .ensures .0) in
+    (e, subst (λ (x : ℕ). x ≤ 3) (sym e) (at-most-three k))
 
 pub operand-count-spec : {M : Type 1} → statement M
 operand-count-spec =
-    tie.close (tie.spec returns returns-2 returns-3 returns-4 returns-5 returns-6 returns-7)
+    tie.close
+    (tie.spec
+    fields-of-requires
+    named-requires
+    named-requires-2
+    add-result
+    named-requires-3
+    add-result-2
+    named-requires-4
+    add-result-3
+    named-requires-5
+    add-result-4
+    returns)

@@ -1,20 +1,22 @@
--- `table::wanted_sort` meets its contract. The two tests fix the sort. Assumes nothing.
-use borrow.Author.Tests.{ne-eqb}
-use Rattle.table.specs.Rows.{wantedSort}
+-- `table::wanted_sort` meets its contract. Only one number names a flag. Assumes nothing.
+use Rattle.table.proofs.Words.{no-flag}
+use Rattle.table.specs.Said.{fieldOf}
+use Rattle.table.specs.Rows.{sortNamed, wantedSort}
+use mathlib.Core.Path.{ap, sym, _∙_}
+use borrow.Author.Needs.{needs}
 use Rattle.table.proofs.wanted_sort.Statement.{statement}
 use Rattle.table.proofs.wanted_sort.Tie as tie
 
+field-at-requires : tie.Need-field-at-requires
+field-at-requires c κs = search needs
+
 returns : tie.Need-returns
 unfolding wantedSort
-returns c = simp (c .before .if1 .taken, c .if2 .taken)
+returns c = ap sortNamed (ap fieldOf (sym (c .match .keys1)) ∙ c .before .field-at .ensures)
 
 returns-2 : tie.Need-returns-2
 unfolding wantedSort
-returns-2 c = simp (c .before .if1 .taken, ne-eqb _ 1 (c .if2 .left))
-
-returns-3 : tie.Need-returns-3
-unfolding wantedSort
-returns-3 c = simp (ne-eqb _ 3 (c .if1 .left))
+returns-2 c = sym (no-flag _ (c .match .rest .1)) ∙ ap sortNamed (c .before .field-at .ensures)
 
 pub wanted-sort-spec : {M : Type 1} → statement M
-wanted-sort-spec = tie.close (tie.spec returns returns-2 returns-3)
+wanted-sort-spec = tie.close (tie.spec field-at-requires returns returns-2)

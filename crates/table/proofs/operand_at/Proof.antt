@@ -1,8 +1,8 @@
--- `carrying::operand_at` meets its contract. Assumes nothing.
+-- `table::operand_at` meets its contract. Assumes nothing.
+use Rattle.table.proofs.Words.{operand-word}
 use borrow.Author.Needs.{needs}
-use Rattle.carrying.proofs.Rows.{operand-word}
-use Rattle.carrying.proofs.operand_at.Statement.{statement}
-use Rattle.carrying.proofs.operand_at.Tie as tie
+use Rattle.table.proofs.operand_at.Statement.{statement}
+use Rattle.table.proofs.operand_at.Tie as tie
 
 kind-at-requires : tie.Need-kind-at-requires
 kind-at-requires c κs = search needs
