@@ -9,11 +9,12 @@
 --   wireSorts, sortAt                                the sort of every wire, by wire number
 --
 -- Assumes nothing.
-use Prim.Native.Nat.{ℕ, _+_, _*_}
+use Prim.Native.Nat.{ℕ, _+_, _*_, _<_}
 use mathlib.Core.Path.{_≡_, refl}
-use mathlib.Core.Bool.{Bool}
+use mathlib.Core.Bool.{Bool, true, false}
 use mathlib.Core.List.{List, [], _∷_, _++_}
 use mathlib.Core.Option.{Option, none, some}
+use native.Mathlib.Omega.{arith}
 use lib.Dec.{eqb, ltb}
 use lib.ListN.{length, getD, take, replicate}
 use Rattle.word.specs.Words.{pick, flag}
@@ -189,3 +190,21 @@ node-sorts (some nd) = kind-sorts (nd .kind) _ _
 pub as-many-sorts-as-outputs : (g : List ℕ) (i : ℕ) → length (joined (λ j. outputSorts (nodeAt g j)) i) ≡ outputsBefore g i
 as-many-sorts-as-outputs g i =
     length-joined (λ j. outputSorts (nodeAt g j)) (λ j. outputCount (nodeAt g j)) (λ j. node-sorts (nodeAt g j)) i
+
+-- The sort of an output is word or flag where the row's is.
+operator-small : (b : Bool) → pick b 0 1 < 2
+operator-small true = omega arith
+operator-small false = omega arith
+
+pub output-sort-small : (κ : Kind) (c s : ℕ) (o : Output) → s < 2 → outputSort κ c s o < 2
+output-sort-small STREAM c s out0 h = h
+output-sort-small STREAM c s out1 h = omega arith
+output-sort-small GATE c s out0 h = h
+output-sort-small GATE c s out1 h = omega arith
+output-sort-small CARRY c s o h = h
+output-sort-small INVARIANT c s o h = h
+output-sort-small SPLIT c s o h = h
+output-sort-small FORK c s o h = h
+output-sort-small DRAIN c s o h = h
+output-sort-small OP c s o h = operator-small (ltb c 3)
+output-sort-small PICK c s o h = h

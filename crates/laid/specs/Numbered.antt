@@ -18,9 +18,9 @@ use borrow.Author.Tests.{eqb-true}
 use lib.Dec.{eqb, leb, ltb}
 use lib.ListN.{length, getElem?, length-append}
 use Rattle.word.specs.Words.{pick}
-use Rattle.step.specs.Kinds.{Kind, STREAM, GATE, CARRY, INVARIANT, SPLIT, OP, PICK, FORK, DRAIN, outputs, codes, ownSorts, inputSort, outputSort, Input, in0, in1, in2, Output, out0, out1}
+use Rattle.step.specs.Kinds.{Kind, STREAM, GATE, CARRY, INVARIANT, SPLIT, OP, PICK, FORK, DRAIN, outputs, codes, ownSorts, inputSort, Input, in0, in1, in2, Output, out0, out1}
 use Rattle.graph.specs.Below.{total}
-use Rattle.graph.specs.Graph.{absent, Node, hasInput, wireOn, outputCount, sortAt}
+use Rattle.graph.specs.Graph.{absent, Node, hasInput, wireOn, outputCount, sortAt, output-sort-small}
 use Rattle.table.specs.Rows.{kindOf, word, sortOf}
 use Rattle.structure.specs.Structure.{Structure}
 use Rattle.lowered.specs.Gathered.{each}
@@ -104,23 +104,6 @@ role-sort-small t (copySplit L v) = flag-or-word t v
 role-sort-small t (copyInvariant L v) = flag-or-word t v
 role-sort-small t (carry a) = omega arith
 role-sort-small t (argSplit a) = omega arith
-
-operator-small : (b : Bool) → pick b 0 1 < 2
-operator-small true = omega arith
-operator-small false = omega arith
-
-output-sort-small : (κ : Kind) (c s : ℕ) (o : Output) → s < 2 → outputSort κ c s o < 2
-output-sort-small STREAM c s out0 h = h
-output-sort-small STREAM c s out1 h = omega arith
-output-sort-small GATE c s out0 h = h
-output-sort-small GATE c s out1 h = omega arith
-output-sort-small CARRY c s o h = h
-output-sort-small INVARIANT c s o h = h
-output-sort-small SPLIT c s o h = h
-output-sort-small FORK c s o h = h
-output-sort-small DRAIN c s o h = h
-output-sort-small OP c s o h = operator-small (ltb c 3)
-output-sort-small PICK c s o h = h
 
 wire-sort-small : (t : List ℕ) (w : Wire) → wireSort t w < 2
 wire-sort-small t (start v) = omega arith

@@ -116,7 +116,7 @@ fn results_full(graph: &[u32], state: &[u32]) -> bool
 }
 
 // A wire that is no result is empty: `marks` counts how often each wire is one.
-fn rest_empty(state: &[u32], mark: u32, wire: usize) -> bool
+fn rest_empty(state: &[u32], mark: u8, wire: usize) -> bool
     requires { ⌜ 2 * wire + 1 < length (now state) ⌝ }
     ensures answer { λ r. ⌜ r ≡ (ltb 0 mark || not (isFull (now (state .entry)) wire)) ⌝ }
 {
@@ -130,7 +130,7 @@ fn others_empty(graph: &[u32], state: &[u32]) -> bool
     requires { ⌜ Runs (now graph) (length (now state)) ⌝ }
     ensures answer { λ r. ⌜ r ≡ othersEmpty (now (graph .entry)) (now (state .entry)) ⌝ }
 {
-    let mut marks = [0u32; 8192];
+    let mut marks = [0u8; 8192];
     graph::count_results(graph, &mut marks);
     let wires = graph::wide(graph[1]);
     let mut w: usize = 0;

@@ -1,11 +1,11 @@
 -- `graph::sorts_agree` meets its contract. The table of sorts, then nodes, then results.
 -- Assumes nothing.
-use Rattle.graph.specs.Refusal.{sortsAgree, wires-are-all-outputs}
+use Rattle.graph.specs.Refusal.{sortsAgree}
 use Rattle.graph.proofs.sorts_agree.Statement.{statement}
 use Rattle.graph.proofs.sorts_agree.Tie as tie
 
 wire-sorts-requires : tie.Need-wire-sorts-requires
-wire-sorts-requires c κs = (c .before .pre .0, wires-are-all-outputs (c .before .args .graph .now) (c .before .pre .1))
+wire-sorts-requires c κs = (c .before .pre .0, c .before .pre .1)
 
 nodes-sorted-requires : tie.Need-nodes-sorted-requires
 nodes-sorted-requires c κs = (c .before .before .before .pre .0, c .before .before .before .pre .2, c .before .wire-sorts .ensures)
