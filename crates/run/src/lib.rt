@@ -38,6 +38,17 @@ fn turn_of(graph: &[u32], state: &mut [u32], i: usize, left: u64) -> u64
     left
 }
 
+// The same in a sweep, where most nodes wait: that is asked before a firing is worked out.
+fn sweep_turn(graph: &[u32], state: &mut [u32], i: usize, left: u64) -> u64
+    requires { ⌜ Runs (now graph) (length (now state)) × (i < nodeCount (now graph)) ⌝ }
+    ensures turn { λ r. ⌜ (at (now (state .exit)) r ≡ turn (netOf (now (graph .entry))) i (at (now (state .entry)) left)) × (r ≤ left) ⌝ }
+{
+    if firing::waits(graph, state, i) {
+        return left;
+    }
+    turn_of(graph, state, i, left)
+}
+
 // The caller's list once.
 pub fn follow_order(graph: &[u32], state: &mut [u32], order: &[u32], allowance: u64) -> u64
     requires { ⌜ Runs (now graph) (length (now state)) × Below (now graph) (now order) ⌝ }
@@ -61,7 +72,7 @@ pub fn sweep_once(graph: &[u32], state: &mut [u32], allowance: u64) -> u64
     let mut left = allowance;
     let mut i: usize = 0;
     while i < nodes {
-        left = turn_of(graph, state, i, left);
+        left = sweep_turn(graph, state, i, left);
         i += 1;
     }
     left
