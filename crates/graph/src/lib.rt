@@ -578,7 +578,8 @@ fn sorts_agree(graph: &[u32]) -> bool
     requires { ⌜ Shaped (now graph) × (rowsRight (now graph) ≡ true) × (wiresBelow (now graph) ≡ true) ⌝ }
     ensures { λ r. ⌜ r ≡ sortsAgree (now (graph .entry)) ⌝ }
 {
-    let sorts = wire_sorts(graph);
+    let mut sorts = [0u8; 8192];
+    mark_nodes(graph, &mut sorts);
     if nodes_sorted(graph, &sorts) {} else {
         return false;
     }
