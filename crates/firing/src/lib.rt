@@ -1,17 +1,18 @@
 // One firing of one node on lent words: the node's view is read from the state, and what the step does is stored back.
 // Callers have checked the graph, and the state's length.
 ghost use mathlib.Core.Path.{_≡_};
-ghost use mathlib.Core.Bool.{Bool, true, false};
+ghost use mathlib.Core.Bool.{Bool, true, false, not, _||_};
 ghost use mathlib.Core.Option.{some, none};
 ghost use Prim.Native.Nat.{ℕ, _+_, _*_, _<_, _≤_};
 ghost use lib.ListN.{length, getD, set};
 ghost use Rattle.word.specs.Words.{pick};
 ghost use Rattle.step.specs.Shown.{tokenOf, shown};
 ghost use Rattle.lent.specs.Left.{leftBy};
-ghost use Rattle.graph.specs.Graph.{nodeCount, wireCount};
+ghost use Rattle.graph.specs.Graph.{nodeCount, wireCount, nodeAt};
 ghost use Rattle.graph.specs.Refusal.{Shaped};
-ghost use Rattle.state.specs.Net.{effectAt, fire, isReady, orElse, netOf};
+ghost use Rattle.state.specs.Net.{view, effectAt, fire, isReady, orElse, netOf};
 ghost use Rattle.firing.specs.Acted.{actStores, Room, Reads, Within, Sees, Placed};
+ghost use Rattle.firing.specs.Waiting.{emptyAt, waitingAt};
 ghost use Rattle.state.specs.State.{tokenAt, tokenOn, isEmpty, hasRoom, recordAt, stored, emptied, filled, kept};
 
 // What stands on a wire.
@@ -203,6 +204,72 @@ fn look(graph: &[u32], state: &[u32], row: Row, i: usize) -> lent::After
     let seen = see(state, row);
     let own = record_at(state, wires, i);
     lent::advanced(row.kind, row.code, seen, own)
+}
+
+// A node that waits, told before its firing is worked out, which costs many times as much: by kind and phase, an input that it needs is empty,
+// or an output full.
+
+// Whether the wire is empty that stands in word k of the row at `at`.
+fn empty_at(graph: &[u32], state: &[u32], at: usize, k: usize) -> bool
+    requires { ⌜ (at + k < length (now graph)) × (2 * getD (now graph) (at + k) 0 + 1 < length (now state)) ⌝ }
+    ensures empty { λ r. ⌜ r ≡ emptyAt (now (graph .entry)) (now (state .entry)) (at + k) ⌝ }
+{
+    is_empty(state, graph::wide(graph[at + k]))
+}
+
+// One of its first two inputs is empty.
+fn lacks_input(graph: &[u32], state: &[u32], at: usize) -> bool
+    requires { ⌜ (at + 4 < length (now graph)) × (2 * getD (now graph) (at + 3) 0 + 1 < length (now state)) × (2 * getD (now graph) (at + 4) 0 + 1 < length (now state)) ⌝ }
+    ensures waits { λ r. ⌜ r ≡ (emptyAt (now (graph .entry)) (now (state .entry)) (at + 3) || emptyAt (now (graph .entry)) (now (state .entry)) (at + 4)) ⌝ }
+{
+    if empty_at(graph, state, at, 3) {
+        return true;
+    }
+    empty_at(graph, state, at, 4)
+}
+
+// A FORK's input is empty, or its first output full.
+fn fork_waits(graph: &[u32], state: &[u32], at: usize) -> bool
+    requires { ⌜ (at + 6 < length (now graph)) × (2 * getD (now graph) (at + 3) 0 + 1 < length (now state)) × (2 * getD (now graph) (at + 6) 0 + 1 < length (now state)) ⌝ }
+    ensures waits { λ r. ⌜ r ≡ (emptyAt (now (graph .entry)) (now (state .entry)) (at + 3) || not (emptyAt (now (graph .entry)) (now (state .entry)) (at + 6))) ⌝ }
+{
+    if empty_at(graph, state, at, 3) {
+        return true;
+    }
+    !empty_at(graph, state, at, 6)
+}
+
+// Whether node i waits. If so it is not ready: `waiting-is-not-ready`.
+pub fn waits(graph: &[u32], state: &[u32], i: usize) -> bool
+    requires { ⌜ Placed (now graph) i (length (now state)) ⌝ }
+    ensures waits { λ r. ⌜ r ≡ waitingAt (nodeAt (now (graph .entry)) i) (view (netOf (now (graph .entry))) i (now (state .entry))) ⌝ }
+{
+    let at = graph::row_place(graph, i);
+    let wires = graph::wide(graph[1]);
+    let phase = state[2 * wires + 4 * i];
+    let kind = graph[at];
+    match kind {
+        0 => match phase {
+            0 => empty_at(graph, state, at, 3),
+            _ => !empty_at(graph, state, at, 6),
+        },
+        1 => lacks_input(graph, state, at),
+        2 => match phase {
+            0 => empty_at(graph, state, at, 4),
+            1 => empty_at(graph, state, at, 3),
+            _ => empty_at(graph, state, at, 5),
+        },
+        3 => match phase {
+            0 => empty_at(graph, state, at, 4),
+            _ => empty_at(graph, state, at, 3),
+        },
+        4 => lacks_input(graph, state, at),
+        5 => fork_waits(graph, state, at),
+        6 => empty_at(graph, state, at, 3),
+        7 => lacks_input(graph, state, at),
+        8 => lacks_input(graph, state, at),
+        _ => true,
+    }
 }
 
 // Whether node i is ready.

@@ -7,20 +7,49 @@ use mathlib.Core.List.{List, [], _∷_, _++_}
 use mathlib.Core.Option.{Option, none, some}
 use native.Mathlib.Omega.{arith}
 use native.Mathlib.Numerals.{add-one}
+use borrow.Author.Tests.{ltb-true}
 use lib.Dec.{eqb, ltb}
 use lib.ListN.{getD, set, take, drop, length, length-replicate, replicate}
 use lib.Seq.{sets, sets-eq}
 use Rattle.word.specs.Words.{pick}
-use Rattle.step.specs.Kinds.{Kind, kindOf, inputs, outputs, Input, in0, in1, in2, out0, out1}
+use Rattle.step.specs.Kinds.{Kind, kindOf, inputs, outputs, codes, ownSorts, Input, in0, in1, in2, Output, out0, out1, STREAM, GATE, CARRY, INVARIANT, SPLIT, FORK, DRAIN, OP, PICK, output-sort-small}
 use Rattle.graph.specs.Below.{joined, joined-more}
 use Rattle.graph.specs.Graph.{nodeCount, startCount, wireCount, resultAt, rowPlace, nodeOf, rowAt, nodeAt, inputPlace, column, inputSortOf, outputSortOf, outputSorts, firstAt, wireSorts, sortAt, as-many-sorts-as-outputs}
-use Rattle.graph.specs.Refusal.{rowSorted, nodeSorted, resultSorted}
-use Rattle.graph.proofs.Rows.{node-is-row}
+use Rattle.graph.specs.Refusal.{nodeRight, rowsRight, wires-are-all-outputs, rowSorted, nodeSorted, resultSorted}
+use Rattle.step.specs.Kept.{and-true}
+use Rattle.graph.proofs.Rows.{node-is-row, right-at}
 
 -- A third input has the row's sort.
 in2-own : (o : Option Kind) (s : ℕ) → inputSortOf o s in2 ≡ s
 in2-own none s = refl
 in2-own (some κ) s = refl
+
+-- ---- sorts fit a byte
+
+own-sorts-two : (o : Option Kind) → column ownSorts o ≤ 2
+own-sorts-two none = omega arith
+own-sorts-two (some STREAM) = omega arith
+own-sorts-two (some GATE) = omega arith
+own-sorts-two (some CARRY) = omega arith
+own-sorts-two (some INVARIANT) = omega arith
+own-sorts-two (some SPLIT) = omega arith
+own-sorts-two (some FORK) = omega arith
+own-sorts-two (some DRAIN) = omega arith
+own-sorts-two (some OP) = omega arith
+own-sorts-two (some PICK) = omega arith
+
+sorts-small : (o : Option Kind) (c s : ℕ) (k : Output) → s < 2 → outputSortOf o c s k < 2
+sorts-small none c s k h = h
+sorts-small (some κ) c s k h = output-sort-small κ c s k h
+
+pub right-row-sorts : (g : List ℕ) (i p : ℕ) → i < nodeCount g → p ≡ rowPlace g i → nodeRight g i ≡ true → (k : Output) {q : ℕ}
+    → q ≡ outputSortOf (kindOf (getD g p 0)) (getD g (p + 1) 0) (getD g (p + 2) 0) k → q < 2
+right-row-sorts g i p h e r k eq =
+    let o = kindOf (getD g p 0) in
+    let t = and-true (ltb (getD g (p + 1) 0) (column codes o)) _ (sym (right-at g i p h e (firstAt g i)) ∙ r) .1 in
+    let own : getD g (p + 2) 0 < column ownSorts o = ltb-true _ _ (and-true (ltb (getD g (p + 2) 0) (column ownSorts o)) _ t .0) in
+    let two = own-sorts-two o in
+    rw eq (sorts-small o (getD g (p + 1) 0) (getD g (p + 2) 0) k (omega arith))
 
 -- ---- the table of wire sorts
 
@@ -88,11 +117,12 @@ filled n s w xs h =
     let rest = drop-zeros (s + length xs) n in
     rw (sets-eq xs zeros s fits, take-zeros s n (omega arith), rest .1) (before-zeros (replicate s 0 ++ xs) (rest .0) w)
 
-pub table-filled : (g : List ℕ) {t : List ℕ} → wireCount g ≤ 8192 → wireCount g ≡ firstAt g (nodeCount g)
+pub table-filled : (g : List ℕ) {t : List ℕ} → wireCount g ≤ 8192 → rowsRight g ≡ true
     → t ≡ sets (replicate 8192 0) (startCount g) (joined (λ j. outputSorts (nodeAt g j)) (nodeCount g))
     → (w : ℕ) → getD t w 0 ≡ sortAt g w
 unfolding wireSorts
-table-filled g small all e w =
+table-filled g small right e w =
+    let all = wires-are-all-outputs g right in
     let sorts = joined (λ j. outputSorts (nodeAt g j)) (nodeCount g) in
     let fits : startCount g + length sorts ≤ 8192 = rw (as-many-sorts-as-outputs g (nodeCount g), ← all) small in
     rw e (filled 8192 (startCount g) w sorts fits)

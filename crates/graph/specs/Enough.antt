@@ -100,7 +100,7 @@ module _ (g : List ℕ) (a : Accepted g) where
 
   -- ---- the whole graph
 
-  rows-right : rowsRight g ≡ true
+  pub rows-right : rowsRight g ≡ true
   unfolding rowsRight
   rows-right =
       rw (

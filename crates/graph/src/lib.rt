@@ -44,6 +44,13 @@ pub fn wide(x: u32) -> usize
     x as usize
 }
 
+// A word of a table of bytes.
+pub fn word_of(byte: u8) -> u32
+    ensures { λ r. ⌜ r ≡ byte ⌝ }
+{
+    byte as u32
+}
+
 // The kinds of nodes.
 const STREAM: u32 = 0;
 
@@ -373,7 +380,7 @@ fn wires_below(graph: &[u32]) -> bool
 }
 
 // 14: how often each wire is read, counted up to two.
-fn once_more(times: u32) -> u32
+fn once_more(times: u8) -> u8
     ensures { λ r. ⌜ r ≡ onceMore times ⌝ }
 {
     match times {
@@ -382,7 +389,7 @@ fn once_more(times: u32) -> u32
     }
 }
 
-fn count(seen: &mut [u32; 8192], present: bool, wire: u32)
+fn count(seen: &mut [u8; 8192], present: bool, wire: u32)
     requires { ⌜ (present ≡ true → wire < 8192) ⌝ }
     ensures { λ r. ⌜ now (seen .exit) ≡ counted (now (seen .entry)) (pick present (wire ∷ []) []) ⌝ }
 {
@@ -392,7 +399,7 @@ fn count(seen: &mut [u32; 8192], present: bool, wire: u32)
     }
 }
 
-fn count_node(graph: &[u32], i: usize, seen: &mut [u32; 8192])
+fn count_node(graph: &[u32], i: usize, seen: &mut [u8; 8192])
     requires { ⌜ Shaped (now graph) × (i < nodeCount (now graph)) × (nodeBelow (now graph) i ≡ true) ⌝ }
     ensures { λ r. ⌜ now (seen .exit) ≡ counted (now (seen .entry)) (nodeReads (nodeAt (now (graph .entry)) i)) ⌝ }
 {
@@ -403,7 +410,7 @@ fn count_node(graph: &[u32], i: usize, seen: &mut [u32; 8192])
     count(seen, 2 < inputs, graph[at + 5]);
 }
 
-fn count_nodes(graph: &[u32], seen: &mut [u32; 8192])
+fn count_nodes(graph: &[u32], seen: &mut [u8; 8192])
     requires { ⌜ Shaped (now graph) × (wiresBelow (now graph) ≡ true) ⌝ }
     ensures { λ r. ⌜ now (seen .exit) ≡ counted (now (seen .entry)) (joined (λ i. nodeReads (nodeAt (now (graph .entry)) i)) (nodeCount (now (graph .entry)))) ⌝ }
 {
@@ -415,7 +422,7 @@ fn count_nodes(graph: &[u32], seen: &mut [u32; 8192])
     }
 }
 
-pub fn count_results(graph: &[u32], seen: &mut [u32; 8192])
+pub fn count_results(graph: &[u32], seen: &mut [u8; 8192])
     requires { ⌜ Shaped (now graph) × (wiresBelow (now graph) ≡ true) ⌝ }
     ensures { λ r. ⌜ now (seen .exit) ≡ counted (now (seen .entry)) (results (now (graph .entry)) (resultCount (now (graph .entry)))) ⌝ }
 {
@@ -431,7 +438,7 @@ fn read_once(graph: &[u32]) -> bool
     requires { ⌜ Shaped (now graph) × (wiresBelow (now graph) ≡ true) ⌝ }
     ensures { λ r. ⌜ r ≡ readOnce (now (graph .entry)) ⌝ }
 {
-    let mut seen = [0u32; 8192];
+    let mut seen = [0u8; 8192];
     count_nodes(graph, &mut seen);
     count_results(graph, &mut seen);
     let wires = wide(graph[1]);
@@ -490,18 +497,19 @@ pub fn out1_sort(kind: u32, code: u32, sort: u32) -> u32
     place_sort(columns_of(kind).out1, code, sort)
 }
 
-fn mark(sorts: &mut [u32; 8192], present: bool, wire: u32, sort: u32)
-    requires { ⌜ (present ≡ true → wire < 8192) ⌝ }
+// Words and flags are sorts 0 and 1, so a byte holds a sort.
+fn mark(sorts: &mut [u8; 8192], present: bool, wire: u32, sort: u32)
+    requires { ⌜ (present ≡ true → wire < 8192) × (sort < 2) ⌝ }
     ensures { λ r. ⌜ now (sorts .exit) ≡ pick present (set (now (sorts .entry)) wire sort) (now (sorts .entry)) ⌝ }
 {
     if present {
         let w = wide(wire);
-        sorts[w] = sort;
+        sorts[w] = sort as u8;
     }
 }
 
-fn mark_node(graph: &[u32], i: usize, next: u32, sorts: &mut [u32; 8192])
-    requires { ⌜ Shaped (now graph) × (i < nodeCount (now graph)) × (next + outputCount (nodeAt (now graph) i) ≤ 8192) ⌝ }
+fn mark_node(graph: &[u32], i: usize, next: u32, sorts: &mut [u8; 8192])
+    requires { ⌜ Shaped (now graph) × (i < nodeCount (now graph)) × (next + outputCount (nodeAt (now graph) i) ≤ 8192) × (nodeRight (now graph) i ≡ true) ⌝ }
     ensures { λ r. ⌜ now (sorts .exit) ≡ sets (now (sorts .entry)) next (outputSorts (nodeAt (now (graph .entry)) i)) ⌝ }
 {
     let at = row_place(graph, i);
@@ -513,8 +521,8 @@ fn mark_node(graph: &[u32], i: usize, next: u32, sorts: &mut [u32; 8192])
     mark(sorts, 1 < outputs, next + 1, out1_sort(kind, code, sort));
 }
 
-fn mark_nodes(graph: &[u32], sorts: &mut [u32; 8192])
-    requires { ⌜ Shaped (now graph) × (wireCount (now graph) ≡ firstAt (now graph) (nodeCount (now graph))) ⌝ }
+fn mark_nodes(graph: &[u32], sorts: &mut [u8; 8192])
+    requires { ⌜ Shaped (now graph) × (rowsRight (now graph) ≡ true) ⌝ }
     ensures { λ r. ⌜ now (sorts .exit) ≡ sets (now (sorts .entry)) (startCount (now (graph .entry))) (joined (λ i. outputSorts (nodeAt (now (graph .entry)) i)) (nodeCount (now (graph .entry)))) ⌝ }
 {
     let nodes = wide(graph[0]);
@@ -529,27 +537,27 @@ fn mark_nodes(graph: &[u32], sorts: &mut [u32; 8192])
 }
 
 // The sort of each wire at its number, 0 past the last.
-pub fn wire_sorts(graph: &[u32]) -> [u32; 8192]
-    requires { ⌜ Shaped (now graph) × (wireCount (now graph) ≡ firstAt (now graph) (nodeCount (now graph))) ⌝ }
+pub fn wire_sorts(graph: &[u32]) -> [u8; 8192]
+    requires { ⌜ Shaped (now graph) × (rowsRight (now graph) ≡ true) ⌝ }
     ensures { λ r. ⌜ ((w : ℕ) → getD r w 0 ≡ sortAt (now (graph .entry)) w) ⌝ }
 {
-    let mut sorts = [0u32; 8192];
+    let mut sorts = [0u8; 8192];
     mark_nodes(graph, &mut sorts);
     sorts
 }
 
-fn sorted(present: bool, sorts: &[u32; 8192], wire: u32, sort: u32) -> bool
+fn sorted(present: bool, sorts: &[u8; 8192], wire: u32, sort: u32) -> bool
     requires { ⌜ (present ≡ true → wire < 8192) ⌝ }
     ensures { λ r. ⌜ r ≡ pick present (eqb (getD (now (sorts .entry)) wire 0) sort) true ⌝ }
 {
     if present {
         let w = wide(wire);
-        return sorts[w] == sort;
+        return word_of(sorts[w]) == sort;
     }
     true
 }
 
-fn node_sorted(graph: &[u32], i: usize, sorts: &[u32; 8192]) -> bool
+fn node_sorted(graph: &[u32], i: usize, sorts: &[u8; 8192]) -> bool
     requires { ⌜ Shaped (now graph) × (i < nodeCount (now graph)) × (nodeBelow (now graph) i ≡ true) × ((w : ℕ) → getD (now sorts) w 0 ≡ sortAt (now graph) w) ⌝ }
     ensures { λ r. ⌜ r ≡ nodeSorted (now (graph .entry)) i ⌝ }
 {
@@ -566,7 +574,7 @@ fn node_sorted(graph: &[u32], i: usize, sorts: &[u32; 8192]) -> bool
     sorted(2 < inputs, sorts, graph[at + 5], sort)
 }
 
-fn nodes_sorted(graph: &[u32], sorts: &[u32; 8192]) -> bool
+fn nodes_sorted(graph: &[u32], sorts: &[u8; 8192]) -> bool
     requires { ⌜ Shaped (now graph) × (wiresBelow (now graph) ≡ true) × ((w : ℕ) → getD (now sorts) w 0 ≡ sortAt (now graph) w) ⌝ }
     ensures { λ r. ⌜ r ≡ every (nodeCount (now (graph .entry))) (nodeSorted (now (graph .entry))) ⌝ }
 {
@@ -582,7 +590,7 @@ fn nodes_sorted(graph: &[u32], sorts: &[u32; 8192]) -> bool
     true
 }
 
-fn results_sorted(graph: &[u32], sorts: &[u32; 8192]) -> bool
+fn results_sorted(graph: &[u32], sorts: &[u8; 8192]) -> bool
     requires { ⌜ Shaped (now graph) × (wiresBelow (now graph) ≡ true) × ((w : ℕ) → getD (now sorts) w 0 ≡ sortAt (now graph) w) ⌝ }
     ensures { λ r. ⌜ r ≡ every (resultCount (now (graph .entry))) (resultSorted (now (graph .entry))) ⌝ }
 {
@@ -602,7 +610,8 @@ fn sorts_agree(graph: &[u32]) -> bool
     requires { ⌜ Shaped (now graph) × (rowsRight (now graph) ≡ true) × (wiresBelow (now graph) ≡ true) ⌝ }
     ensures { λ r. ⌜ r ≡ sortsAgree (now (graph .entry)) ⌝ }
 {
-    let sorts = wire_sorts(graph);
+    let mut sorts = [0u8; 8192];
+    mark_nodes(graph, &mut sorts);
     if nodes_sorted(graph, &sorts) {} else {
         return false;
     }

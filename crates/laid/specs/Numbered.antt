@@ -18,7 +18,7 @@ use borrow.Author.Tests.{eqb-true}
 use lib.Dec.{eqb, leb, ltb}
 use lib.ListN.{length, getElem?, length-append}
 use Rattle.word.specs.Words.{pick}
-use Rattle.step.specs.Kinds.{Kind, STREAM, GATE, CARRY, INVARIANT, SPLIT, OP, PICK, FORK, DRAIN, outputs, codes, ownSorts, inputSort, outputSort, Input, in0, in1, in2, Output, out0, out1, Place, own, flag, given, columns, placeSort}
+use Rattle.step.specs.Kinds.{Kind, STREAM, GATE, CARRY, INVARIANT, SPLIT, OP, PICK, FORK, DRAIN, outputs, codes, ownSorts, inputSort, Input, in0, in1, in2, Output, out0, out1, output-sort-small}
 use Rattle.graph.specs.Below.{total}
 use Rattle.graph.specs.Graph.{absent, Node, hasInput, wireOn, outputCount, sortAt}
 use Rattle.table.specs.Rows.{kindOf, word, sortOf}
@@ -104,19 +104,6 @@ role-sort-small t (copySplit L v) = flag-or-word t v
 role-sort-small t (copyInvariant L v) = flag-or-word t v
 role-sort-small t (carry a) = omega arith
 role-sort-small t (argSplit a) = omega arith
-
-operator-small : (b : Bool) → pick b 0 1 < 2
-operator-small true = omega arith
-operator-small false = omega arith
-
-place-sort-small : (p : Place) (c s : ℕ) → s < 2 → placeSort p c s < 2
-place-sort-small own c s h = h
-place-sort-small flag c s h = omega arith
-place-sort-small given c s h = operator-small (ltb c 3)
-
-output-sort-small : (κ : Kind) (c s : ℕ) (o : Output) → s < 2 → outputSort κ c s o < 2
-output-sort-small κ c s out0 h = place-sort-small (columns κ .out0) c s h
-output-sort-small κ c s out1 h = place-sort-small (columns κ .out1) c s h
 
 wire-sort-small : (t : List ℕ) (w : Wire) → wireSort t w < 2
 wire-sort-small t (start v) = omega arith

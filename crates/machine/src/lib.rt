@@ -39,12 +39,12 @@ fn word_fits(sort: u32, word: u32) -> bool
     }
 }
 
-fn token_legal(sort: u32, full: u32, word: u32) -> bool
+fn token_legal(sort: u8, full: u32, word: u32) -> bool
     ensures answer { λ r. ⌜ r ≡ legalToken sort full word ⌝ }
 {
     match full {
         0 => word == 0,
-        1 => word_fits(sort, word),
+        1 => word_fits(graph::word_of(sort), word),
         _ => false,
     }
 }

@@ -45,6 +45,9 @@ module _ (N : Net) (i : ℕ) (s : List ℕ) where
   unfolding turn
   turn-missed {left = left} p t = missed (fire N i s) left (p .0) t (p .1)
 
+  pub turn-waited : {left : ℕ} → fire N i s ≡ none → at s left ≡ turn N i (at s left)
+  turn-waited q = turn-missed {t = false} {a = s} (sym (ap isReady q), sym (ap (λ (o : Option (List ℕ)). orElse o s) q)) refl
+
 -- ---- the list
 
 module _ (N : Net) (order : List ℕ) (k : ℕ) (p : At) where

@@ -38,6 +38,17 @@ fn turn_of(graph: &[u32], state: &mut [u32], i: usize, left: u64) -> u64
     left
 }
 
+// The same in a sweep, where most nodes wait: that is asked before a firing is worked out.
+fn sweep_turn(graph: &[u32], state: &mut [u32], i: usize, left: u64) -> u64
+    requires { ⌜ Runs (now graph) (length (now state)) × (i < nodeCount (now graph)) ⌝ }
+    ensures turn { λ r. ⌜ (at (now (state .exit)) r ≡ turn (netOf (now (graph .entry))) i (at (now (state .entry)) left)) × (r ≤ left) ⌝ }
+{
+    if firing::waits(graph, state, i) {
+        return left;
+    }
+    turn_of(graph, state, i, left)
+}
+
 // The caller's list once.
 pub fn follow_order(graph: &[u32], state: &mut [u32], order: &[u32], allowance: u64) -> u64
     requires { ⌜ Runs (now graph) (length (now state)) × Below (now graph) (now order) ⌝ }
@@ -61,7 +72,7 @@ pub fn sweep_once(graph: &[u32], state: &mut [u32], allowance: u64) -> u64
     let mut left = allowance;
     let mut i: usize = 0;
     while i < nodes {
-        left = turn_of(graph, state, i, left);
+        left = sweep_turn(graph, state, i, left);
         i += 1;
     }
     left
@@ -116,7 +127,7 @@ fn results_full(graph: &[u32], state: &[u32]) -> bool
 }
 
 // A wire that is no result is empty: `marks` counts how often each wire is one.
-fn rest_empty(state: &[u32], mark: u32, wire: usize) -> bool
+fn rest_empty(state: &[u32], mark: u8, wire: usize) -> bool
     requires { ⌜ 2 * wire + 1 < length (now state) ⌝ }
     ensures answer { λ r. ⌜ r ≡ (ltb 0 mark || not (isFull (now (state .entry)) wire)) ⌝ }
 {
@@ -130,7 +141,7 @@ fn others_empty(graph: &[u32], state: &[u32]) -> bool
     requires { ⌜ Runs (now graph) (length (now state)) ⌝ }
     ensures answer { λ r. ⌜ r ≡ othersEmpty (now (graph .entry)) (now (state .entry)) ⌝ }
 {
-    let mut marks = [0u32; 8192];
+    let mut marks = [0u8; 8192];
     graph::count_results(graph, &mut marks);
     let wires = graph::wide(graph[1]);
     let mut w: usize = 0;

@@ -8,6 +8,7 @@
 --   limit                         a word of a sort is below its limit
 --
 -- Assumes nothing.
+use mathlib.Core.Bool.{Bool, true, false}
 use mathlib.Core.Option.{Option, none, some}
 use mathlib.Core.List.{List, [], _∷_}
 use mathlib.Core.Path.{_≡_, refl}
@@ -123,3 +124,17 @@ past-end (x ∷ xs) (suc i) h = past-end xs i (omega arith)
 pub no-kind-past-8 : (k : ℕ) → 8 < k → kindOf k ≡ none
 unfolding kindOf
 no-kind-past-8 k h = past-end kinds k h
+
+-- The sort of an output is word or flag where the row's is.
+operator-small : (b : Bool) → pick b 0 1 < 2
+operator-small true = omega arith
+operator-small false = omega arith
+
+place-sort-small : (p : Place) (c s : ℕ) → s < 2 → placeSort p c s < 2
+place-sort-small own c s h = h
+place-sort-small flag c s h = omega arith
+place-sort-small given c s h = operator-small (ltb c 3)
+
+pub output-sort-small : (κ : Kind) (c s : ℕ) (o : Output) → s < 2 → outputSort κ c s o < 2
+output-sort-small κ c s out0 h = place-sort-small (columns κ .out0) c s h
+output-sort-small κ c s out1 h = place-sort-small (columns κ .out1) c s h

@@ -9,17 +9,11 @@ use Rattle.graph.proofs.count.Tie as tie
 wide-requires : tie.Need-wide-requires
 wide-requires c κs = search needs
 
-mul-once-more : tie.Need-mul-once-more
-mul-once-more c = search needs
-
 element-copy-out-once-more : tie.Need-element-copy-out-once-more
 element-copy-out-once-more c = omega (arith, c .before .before .pre (c .before .if1 .taken))
 
 once-more-requires : tie.Need-once-more-requires
 once-more-requires c κs = search needs
-
-mul-seen : tie.Need-mul-seen
-mul-seen c = search needs
 
 element-write-seen : tie.Need-element-write-seen
 element-write-seen c = omega (arith, c .before .before .before .before .pre (c .before .before .before .if1 .taken))
@@ -35,10 +29,8 @@ count-spec =
     tie.close
     (tie.spec
     wide-requires
-    mul-once-more
     element-copy-out-once-more
     once-more-requires
-    mul-seen
     element-write-seen
     returns
     returns-2)

@@ -4,9 +4,9 @@ use native.Mathlib.Omega.{arith}
 use lib.ListN.{getD}
 use borrow.Author.Needs.{needs}
 use borrow.Author.Tests.{ltb-true}
-use Rattle.step.specs.Kinds.{kindOf}
+use Rattle.step.specs.Kinds.{kindOf, out0, out1}
 use Rattle.graph.proofs.Rows.{outputs-at, outputs-small}
-use Rattle.graph.proofs.Sorts.{one-node-marked}
+use Rattle.graph.proofs.Sorts.{one-node-marked, right-row-sorts}
 use Rattle.graph.proofs.mark_node.Statement.{statement}
 use Rattle.graph.proofs.mark_node.Tie as tie
 
@@ -44,7 +44,7 @@ out0-sort-requires : tie.Need-out0-sort-requires
 out0-sort-requires c κs = search needs
 
 mark-requires : tie.Need-mark-requires
-mark-requires c κs = λ t. omega (arith, ltb-true 0 (c .before .before .outputs-of .result) t, outputs-at (c .before .before .before .before .before .before .before .before .args .graph .now) _ _ (c .before .before .before .before .before .before .before .before .pre .1) (c .before .before .before .before .before .before .row-place .ensures))
+mark-requires c κs = (λ t. omega (arith, ltb-true 0 (c .before .before .outputs-of .result) t, outputs-at (c .before .before .before .before .before .before .before .before .args .graph .now) _ _ (c .before .before .before .before .before .before .before .before .pre .1) (c .before .before .before .before .before .before .row-place .ensures)), right-row-sorts (c .before .before .before .before .before .before .before .before .args .graph .now) _ _ (c .before .before .before .before .before .before .before .before .pre .1) (c .before .before .before .before .before .before .row-place .ensures) (c .before .before .before .before .before .before .before .before .pre .3) out0 (c .out0-sort .ensures))
 
 add-mark : tie.Need-add-mark
 add-mark c = search needs
@@ -53,7 +53,7 @@ out1-sort-requires : tie.Need-out1-sort-requires
 out1-sort-requires c κs = search needs
 
 mark-requires-2 : tie.Need-mark-requires-2
-mark-requires-2 c κs = λ t. omega (arith, ltb-true 1 (c .before .before .before .before .before .outputs-of .result) t, outputs-at (c .before .before .before .before .before .before .before .before .before .before .before .args .graph .now) _ _ (c .before .before .before .before .before .before .before .before .before .before .before .pre .1) (c .before .before .before .before .before .before .before .before .before .row-place .ensures))
+mark-requires-2 c κs = (λ t. omega (arith, ltb-true 1 (c .before .before .before .before .before .outputs-of .result) t, outputs-at (c .before .before .before .before .before .before .before .before .before .before .before .args .graph .now) _ _ (c .before .before .before .before .before .before .before .before .before .before .before .pre .1) (c .before .before .before .before .before .before .before .before .before .row-place .ensures)), right-row-sorts (c .before .before .before .before .before .before .before .before .before .before .before .args .graph .now) _ _ (c .before .before .before .before .before .before .before .before .before .before .before .pre .1) (c .before .before .before .before .before .before .before .before .before .row-place .ensures) (c .before .before .before .before .before .before .before .before .before .before .before .pre .3) out1 (c .out1-sort .ensures))
 
 returns : tie.Need-returns
 returns c = let p = c .before .before .before .before .before .before .before .before .before .before .row-place .result in

@@ -7,6 +7,7 @@ use lib.Seq.{sets}
 use borrow.Author.Needs.{needs}
 use Rattle.graph.specs.Below.{joined, total, total-more, total-within}
 use Rattle.graph.specs.Graph.{nodeCount, startCount, nodeAt, outputCount, outputSorts, firstAt}
+use Rattle.graph.specs.Refusal.{node-is-right, wires-are-all-outputs}
 use Rattle.graph.proofs.Rows.{outputs-at}
 use Rattle.graph.proofs.Sorts.{one-more-marked}
 use Rattle.graph.proofs.mark_nodes.Statement.{statement}
@@ -34,7 +35,7 @@ loop-holds c = (omega arith, omega arith, refl)
 mark-node-requires : tie.Need-mark-node-requires Inv-loop μ-loop
 mark-node-requires c κs = let l = c .before .before in
     let g = c .before .before .before .before .before .before .before .args .graph .now in
-    (c .before .before .before .before .before .before .before .pre .0, omega arith, omega (arith, total-within (λ j. outputCount (nodeAt g j)) (l .loop .i) (nodeCount g) (omega arith)))
+    (c .before .before .before .before .before .before .before .pre .0, omega arith, omega (arith, total-within (λ j. outputCount (nodeAt g j)) (l .loop .i) (nodeCount g) (omega arith), wires-are-all-outputs g (c .before .before .before .before .before .before .before .pre .1)), node-is-right g (c .before .before .before .before .before .before .before .pre .1) (l .loop .i) (omega arith))
 
 row-place-requires : tie.Need-row-place-requires Inv-loop μ-loop
 row-place-requires c κs = search needs
@@ -56,6 +57,7 @@ add-next c = let l = c .before .before .before .before .before .before in
       arith,
       outputs-at g (l .loop .i) (c .before .before .row-place .result) h (c .before .before .row-place .ensures),
       total-within (λ j. outputCount (nodeAt g j)) (l .loop .i) (nodeCount g) h,
+      wires-are-all-outputs g (c .before .before .before .before .before .before .before .before .before .before .before .pre .1),
     )
 
 add-i : tie.Need-add-i Inv-loop μ-loop

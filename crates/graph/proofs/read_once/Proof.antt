@@ -34,9 +34,6 @@ loop-holds : tie.Need-loop-holds Inv-loop μ-loop
 unfolding readOnce
 loop-holds c = (omega arith, rw (sub-zero, c .wide .ensures .0))
 
-mul-if1 : tie.Need-mul-if1 Inv-loop μ-loop
-mul-if1 c = search needs
-
 array-read-if1 : tie.Need-array-read-if1 Inv-loop μ-loop
 array-read-if1 c = search needs
 
@@ -71,7 +68,6 @@ read-once-spec =
     shared-slice-read-wide
     wide-requires
     loop-holds
-    mul-if1
     array-read-if1
     add-w
     loop-less

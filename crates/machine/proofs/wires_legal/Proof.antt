@@ -1,6 +1,7 @@
 -- `machine::wires_legal` meets its contract. Assumes nothing.
 use Rattle.machine.proofs.Records.{wire-legal-is}
 use Rattle.state.specs.Legal.{legalWire}
+use Rattle.graph.specs.Enough.{rows-right}
 use Rattle.graph.specs.Graph.{wireCount}
 use Rattle.graph.specs.Below.{everyFrom, every, every-go, every-stop, every-end}
 use borrow.Author.Needs.{needs}
@@ -18,7 +19,7 @@ abbrev μ-loop : tie.MeasureT-loop
 μ-loop graph state sorts wires w₀ w = wires - w
 
 wire-sorts-requires : tie.Need-wire-sorts-requires Inv-loop μ-loop
-wire-sorts-requires c κs = (c .before .before .pre .accepted .shape, c .before .before .pre .accepted .wires)
+wire-sorts-requires c κs = (c .before .before .pre .accepted .shape, rows-right _ (c .before .before .pre .accepted))
 
 shared-slice-read-wide : tie.Need-shared-slice-read-wide Inv-loop μ-loop
 shared-slice-read-wide c = let a = c .before .before .before .before .pre .accepted .shape in omega arith
@@ -29,29 +30,26 @@ wide-requires c κs = search needs
 loop-holds : tie.Need-loop-holds Inv-loop μ-loop
 loop-holds c = (omega arith, c .wide .ensures .0, rw (sub-zero, c .wide .ensures .0))
 
-mul-token-legal : tie.Need-mul-token-legal Inv-loop μ-loop
-mul-token-legal c = omega arith
-
 array-read-token-legal : tie.Need-array-read-token-legal Inv-loop μ-loop
 array-read-token-legal c = let a = c .before .before .before .before .before .before .before .pre .accepted .shape in omega arith
+
+mul-token-legal : tie.Need-mul-token-legal Inv-loop μ-loop
+mul-token-legal c = let a = c .before .before .before .before .before .before .before .pre .accepted .shape in omega arith
 
 mul-token-legal-2 : tie.Need-mul-token-legal-2 Inv-loop μ-loop
 mul-token-legal-2 c = let a = c .before .before .before .before .before .before .before .pre .accepted .shape in omega arith
 
-mul-token-legal-3 : tie.Need-mul-token-legal-3 Inv-loop μ-loop
-mul-token-legal-3 c = let a = c .before .before .before .before .before .before .before .pre .accepted .shape in omega arith
-
 shared-slice-read-token-legal : tie.Need-shared-slice-read-token-legal Inv-loop μ-loop
 shared-slice-read-token-legal c = let e = c .before .before .before .before .before .before .before .before .pre .size in omega arith
 
-mul-token-legal-4 : tie.Need-mul-token-legal-4 Inv-loop μ-loop
-mul-token-legal-4 c = let a = c .before .before .before .before .before .before .before .before .pre .accepted .shape in omega arith
+mul-token-legal-3 : tie.Need-mul-token-legal-3 Inv-loop μ-loop
+mul-token-legal-3 c = let a = c .before .before .before .before .before .before .before .before .pre .accepted .shape in omega arith
 
 add-token-legal : tie.Need-add-token-legal Inv-loop μ-loop
 add-token-legal c = let a = c .before .before .before .before .before .before .before .before .pre .accepted .shape in omega arith
 
-mul-token-legal-5 : tie.Need-mul-token-legal-5 Inv-loop μ-loop
-mul-token-legal-5 c = let a = c .before .before .before .before .before .before .before .before .pre .accepted .shape in omega arith
+mul-token-legal-4 : tie.Need-mul-token-legal-4 Inv-loop μ-loop
+mul-token-legal-4 c = let a = c .before .before .before .before .before .before .before .before .pre .accepted .shape in omega arith
 
 shared-slice-read-token-legal-2 : tie.Need-shared-slice-read-token-legal-2 Inv-loop μ-loop
 shared-slice-read-token-legal-2 c = let e = c .before .before .before .before .before .before .before .before .before .pre .size in omega arith
@@ -84,14 +82,13 @@ wires-legal-spec =
     shared-slice-read-wide
     wide-requires
     loop-holds
-    mul-token-legal
     array-read-token-legal
+    mul-token-legal
     mul-token-legal-2
-    mul-token-legal-3
     shared-slice-read-token-legal
-    mul-token-legal-4
+    mul-token-legal-3
     add-token-legal
-    mul-token-legal-5
+    mul-token-legal-4
     shared-slice-read-token-legal-2
     token-legal-requires
     add-w

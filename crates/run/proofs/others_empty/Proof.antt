@@ -32,9 +32,6 @@ wide-requires c κs = search needs
 loop-holds : tie.Need-loop-holds Inv-loop μ-loop
 loop-holds c = (omega arith, c .wide .ensures .0, rw (sub-zero, c .wide .ensures .0))
 
-mul-rest-empty : tie.Need-mul-rest-empty Inv-loop μ-loop
-mul-rest-empty c = omega arith
-
 array-read-rest-empty : tie.Need-array-read-rest-empty Inv-loop μ-loop
 array-read-rest-empty c = let a = accepted _ (c .before .before .before .before .before .before .before .before .pre .graph) .shape in omega arith
 
@@ -68,7 +65,6 @@ others-empty-spec =
     shared-slice-read-wide
     wide-requires
     loop-holds
-    mul-rest-empty
     array-read-rest-empty
     rest-empty-requires
     add-w

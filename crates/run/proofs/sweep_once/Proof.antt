@@ -29,8 +29,8 @@ wide-requires c κs = search needs
 loop-holds : tie.Need-loop-holds Inv-loop μ-loop
 loop-holds c = (omega arith, c .wide .ensures .0, refl, omega arith, rw (sub-zero, c .wide .ensures .0))
 
-turn-of-requires : tie.Need-turn-of-requires Inv-loop μ-loop
-turn-of-requires c κs = (record { graph = c .before .before .before .before .before .before .before .pre .graph; size = c .before .before .loop .inv .2 ∙ c .before .before .before .before .before .before .before .pre .size }, omega arith)
+sweep-turn-requires : tie.Need-sweep-turn-requires Inv-loop μ-loop
+sweep-turn-requires c κs = (record { graph = c .before .before .before .before .before .before .before .pre .graph; size = c .before .before .loop .inv .2 ∙ c .before .before .before .before .before .before .before .pre .size }, omega arith)
 
 add-i : tie.Need-add-i Inv-loop μ-loop
 add-i c = omega arith
@@ -39,7 +39,7 @@ loop-less : tie.Need-loop-less Inv-loop μ-loop
 loop-less c = omega arith
 
 loop-again : tie.Need-loop-again Inv-loop μ-loop
-loop-again c = (omega arith, c .before .before .before .before .before .loop .inv .1, c .before .before .turn-of .kept .1 .0 ∙ c .before .before .before .before .before .loop .inv .2, omega arith, rw (c .before .before .turn-of .ensures .0) (sym (sweep-go _ _ _ _ (c .before .before .before .before .loop-test .taken)) ∙ c .before .before .before .before .before .loop .inv .4))
+loop-again c = (omega arith, c .before .before .before .before .before .loop .inv .1, c .before .before .sweep-turn .kept .1 .0 ∙ c .before .before .before .before .before .loop .inv .2, omega arith, rw (c .before .before .sweep-turn .ensures .0) (sym (sweep-go _ _ _ _ (c .before .before .before .before .loop-test .taken)) ∙ c .before .before .before .before .before .loop .inv .4))
 
 same-length : tie.Need-same-length Inv-loop μ-loop
 same-length c = c .before .loop .inv .2
@@ -56,7 +56,7 @@ sweep-once-spec =
     shared-slice-read-wide
     wide-requires
     loop-holds
-    turn-of-requires
+    sweep-turn-requires
     add-i
     loop-less
     loop-again
