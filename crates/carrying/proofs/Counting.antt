@@ -11,7 +11,7 @@ use lib.Dec.{eqb, leb}
 use lib.ListN.{length, getD, set, length-set, length-append}
 use lib.Seq.{getD-set-same, getD-set-other}
 use Rattle.word.specs.Words.{flag}
-use Rattle.table.specs.Rows.{kindOf, size}
+use Rattle.table.specs.Rows.{kindAt, size}
 use Rattle.structure.specs.Structure.{Structure, right-table-has-structure}
 use Rattle.lowered.specs.Gathered.{gathered, those, each}
 use Rattle.lowered.specs.Roles.{Role, start}
@@ -35,21 +35,21 @@ pub record BasesBefore (t : List ℕ) (r : ℕ) (old nodes wires : List ℕ) (no
 
 -- ---- starts and results
 abbrev pub ofKind : (ℕ → Bool) → List ℕ → ℕ → ℕ
-ofKind test t r = length (those (λ q. test (kindOf t q)) r)
+ofKind test t r = length (those (λ q. test (kindAt t q)) r)
 
 pub none-counted : (test : ℕ → Bool) (t : List ℕ) → 0 ≡ ofKind test t 0
 unfolding those
 none-counted test t = refl
 
-pub one-counted : (test : ℕ → Bool) (t : List ℕ) (r count k f : ℕ) → count ≡ ofKind test t r → k ≡ kindOf t r → f ≡ flag (test k) → count + f ≡ ofKind test t (r + 1)
+pub one-counted : (test : ℕ → Bool) (t : List ℕ) (r count k f : ℕ) → count ≡ ofKind test t r → k ≡ kindAt t r → f ≡ flag (test k) → count + f ≡ ofKind test t (r + 1)
 one-counted test t r count k f e d q =
-    let m = those-more (λ x. test (kindOf t x)) r in
-    let z : f ≡ flag (test (kindOf t r)) = q ∙ ap (λ (x : ℕ). flag (test x)) d in
-    (let s : count + f ≡ length (those (λ x. test (kindOf t x)) r) + flag (test (kindOf t r)) = omega arith in s)
+    let m = those-more (λ x. test (kindAt t x)) r in
+    let z : f ≡ flag (test (kindAt t r)) = q ∙ ap (λ (x : ℕ). flag (test x)) d in
+    (let s : count + f ≡ length (those (λ x. test (kindAt t x)) r) + flag (test (kindAt t r)) = omega arith in s)
     ∙ sym m ∙ ap (λ (x : ℕ). ofKind test t x) (sym (add-one r))
 
 pub few-counted : (test : ℕ → Bool) (t : List ℕ) (r count : ℕ) → count ≡ ofKind test t r → count ≤ r
-few-counted test t r count e = let z = those-few (λ x. test (kindOf t x)) r in omega arith
+few-counted test t r count e = let z = those-few (λ x. test (kindAt t x)) r in omega arith
 
 module _ (t : List ℕ) (n : ℕ) (p : Passing t n) where
   abbrev S : Structure t
@@ -71,7 +71,7 @@ module _ (t : List ℕ) (n : ℕ) (p : Passing t n) where
   starts-few = let z = those-few (isStart t) (size t) in let f = S .few in omega arith
 
   -- ---- what a row adds
-  module _ (counts : List ℕ) (C : Counted t counts) (r k : ℕ) (l : r < n) (e : k ≡ kindOf t r) where
+  module _ (counts : List ℕ) (C : Counted t counts) (r k : ℕ) (l : r < n) (e : k ≡ kindAt t r) where
     in-rows : r < size t
     in-rows = let q = p .rows in omega arith
 
@@ -92,7 +92,7 @@ module _ (t : List ℕ) (n : ℕ) (p : Passing t n) where
   unfolding wireBase gathered
   no-wires r e = ap (λ (ns : List Role). startTotal t + length (each (roleOutputs t) (gathered (rowRoles t) r ++ ns))) e ∙ ap (λ (ns : List Role). startTotal t + length (each (roleOutputs t) ns)) (append-nil (gathered (rowRoles t) r))
 
-  module _ (r k : ℕ) (e : k ≡ kindOf t r) where
+  module _ (r k : ℕ) (e : k ≡ kindAt t r) where
     is-op : (k ≡ 2) ⊎ (k ≡ 3) → isOp t r ≡ true
     is-op (inl h) = rw (sym e ∙ h)
     is-op (inr h) = rw (sym e ∙ h)

@@ -7,7 +7,7 @@ use native.Mathlib.Omega.{arith}
 use native.Mathlib.Decide.{ℕ-discrete}
 use lib.ListN.{length, getD, set, length-set}
 use lib.Seq.{getD-set-same, getD-set-other}
-use Rattle.table.specs.Rows.{kindOf, size, operandCount, at-most-three}
+use Rattle.table.specs.Rows.{kindAt, size, operandCount, at-most-three}
 use Rattle.table.specs.Bodies.{operand}
 use Rattle.structure.specs.Structure.{Structure, right-table-has-structure}
 use Rattle.carrying.specs.Kept.{Passing, IsUse, UseOrNone, Uses}
@@ -37,8 +37,8 @@ module _ (t : List ℕ) (n : ℕ) (p : Passing t n) where
 
   same-use : (r j q i : ℕ) → IsUse t r j → IsUse t q i → 3 * q + i ≡ 3 * r + j → operand t q i ≡ operand t r j
   same-use r j q i u w e =
-      let a = at-most-three (kindOf t r) in
-      let b = at-most-three (kindOf t q) in
+      let a = at-most-three (kindAt t r) in
+      let b = at-most-three (kindAt t q) in
       let x = u .1 in
       let y = w .1 in
       let z = same-place r j q i (omega arith) (omega arith) e in
@@ -50,7 +50,7 @@ module _ (t : List ℕ) (n : ℕ) (p : Passing t n) where
     value-in = let z = S .operands r j (u .0) (u .1) .before in let l = u .0 in omega arith
 
     link-in : 3 * r + j < 1536
-    link-in = let a = at-most-three (kindOf t r) in let l = u .0 in let x = u .1 in let f = S .few in omega arith
+    link-in = let a = at-most-three (kindAt t r) in let l = u .0 in let x = u .1 in let f = S .few in omega arith
 
     pub head-in : v < 512
     head-in = let l = value-in in let f = S .few in omega arith
@@ -120,33 +120,33 @@ module _ (t : List ℕ) (n : ℕ) (p : Passing t n) where
             ]
 
   -- ---- in the code's terms
-  pub use-here : (r m k j : ℕ) → r < n → k ≡ kindOf t r → m ≡ operandCount k → j < m → IsUse t r j
-  use-here r m k j l e d h = let rows = p .rows in let c : m ≡ operandCount (kindOf t r) = d ∙ ap operandCount e in (omega arith, omega arith)
+  pub use-here : (r m k j : ℕ) → r < n → k ≡ kindAt t r → m ≡ operandCount k → j < m → IsUse t r j
+  use-here r m k j l e d h = let rows = p .rows in let c : m ≡ operandCount (kindAt t r) = d ∙ ap operandCount e in (omega arith, omega arith)
 
   -- behind a row's last operand nothing is left of the row
-  pub row-linked : (r m k j : ℕ) (heads links : List ℕ) → k ≡ kindOf t r → m ≡ operandCount k → j ≤ m → m ≤ j → Uses t (3 * r + j) heads links → Uses t (3 * (r + 1)) heads links
+  pub row-linked : (r m k j : ℕ) (heads links : List ℕ) → k ≡ kindAt t r → m ≡ operandCount k → j ≤ m → m ≤ j → Uses t (3 * r + j) heads links → Uses t (3 * (r + 1)) heads links
   row-linked r m k j heads links e d a b U =
       record {
         heads-long = U .heads-long;
         links-long = U .links-long;
         head = U .head;
-        head-below = λ v l. let z = U .head-below v l in let y = at-most-three (kindOf t r) in let c = count in omega arith;
+        head-below = λ v l. let z = U .head-below v l in let y = at-most-three (kindAt t r) in let c = count in omega arith;
         head-last = λ q i u l. U .head-last q i u (early q i u l);
         link = λ q i u l. U .link q i u (early q i u l);
         link-below = λ q i u l. U .link-below q i u (early q i u l);
         link-last = λ q i s x u w l. U .link-last q i s x u w (early q i u l);
       }
     where
-      count : j ≡ operandCount (kindOf t r)
-      count = let c : m ≡ operandCount (kindOf t r) = d ∙ ap operandCount e in omega arith
+      count : j ≡ operandCount (kindAt t r)
+      count = let c : m ≡ operandCount (kindAt t r) = d ∙ ap operandCount e in omega arith
 
       early : (q i : ℕ) → IsUse t q i → 3 * q + i < 3 * (r + 1) → 3 * q + i < 3 * r + j
-      early q i u l = elim (ℕ-discrete q r) [ yes z ↦ here z (subst (λ (x : ℕ). i < operandCount (kindOf t x)) z (u .1)) | no z ↦ above z (at-most-three (kindOf t q)) (u .1) ]
+      early q i u l = elim (ℕ-discrete q r) [ yes z ↦ here z (subst (λ (x : ℕ). i < operandCount (kindAt t x)) z (u .1)) | no z ↦ above z (at-most-three (kindAt t q)) (u .1) ]
         where
-          here : q ≡ r → i < operandCount (kindOf t r) → 3 * q + i < 3 * r + j
+          here : q ≡ r → i < operandCount (kindAt t r) → 3 * q + i < 3 * r + j
           here z h = let c = count in omega arith
 
-          above : q ≢ r → operandCount (kindOf t q) ≤ 3 → i < operandCount (kindOf t q) → 3 * q + i < 3 * r + j
+          above : q ≢ r → operandCount (kindAt t q) ≤ 3 → i < operandCount (kindAt t q) → 3 * q + i < 3 * r + j
           above z x y = omega arith
 
   pub all-linked : (r : ℕ) (heads links : List ℕ) → r ≤ n → n ≤ r → Uses t (3 * r) heads links → Uses t (3 * n) heads links

@@ -8,7 +8,7 @@ use native.Mathlib.Numerals.{add-one}
 use native.Mathlib.Decide.{ℕ-discrete}
 use lib.ListN.{length, getD, set, length-set}
 use lib.Seq.{getD-set-same, getD-set-other}
-use Rattle.table.specs.Rows.{kindOf}
+use Rattle.table.specs.Rows.{kindAt}
 use Rattle.table.specs.Scan.{bodyOf, home, reads}
 use Rattle.structure.specs.Operands.{home-here}
 use Rattle.structure.specs.Structure.{Structure, right-table-has-structure}
@@ -20,18 +20,18 @@ module _ (t : List ℕ) (n : ℕ) (p : Passing t n) where
   S = right-table-has-structure t (p .right)
 
   -- ---- the body behind a row
-  pub for-opens : (r k : ℕ) → k ≡ kindOf t r → k ≡ 4 → r ≡ bodyOf t (r + 1)
+  pub for-opens : (r k : ℕ) → k ≡ kindAt t r → k ≡ 4 → r ≡ bodyOf t (r + 1)
   for-opens r k e h = sym (ap (bodyOf t) (add-one r) ∙ body-after-for t r (sym e ∙ h))
 
-  pub end-body-below : (r k b : ℕ) → r < n → k ≡ kindOf t r → k ≡ 7 → b ≡ bodyOf t r → b < r
+  pub end-body-below : (r k b : ℕ) → r < n → k ≡ kindAt t r → k ≡ 7 → b ≡ bodyOf t r → b < r
   end-body-below r k b l e h d = let q = p .rows in let z = S .end-of r (omega arith) (sym e ∙ h) .1 in omega arith
 
-  pub end-leads-back : (r k b x : ℕ) (bodies : List ℕ) → Bodies t r bodies → r < n → k ≡ kindOf t r → k ≡ 7 → b ≡ bodyOf t r → x ≡ getD bodies b 0 → x ≡ bodyOf t (r + 1)
+  pub end-leads-back : (r k b x : ℕ) (bodies : List ℕ) → Bodies t r bodies → r < n → k ≡ kindAt t r → k ≡ 7 → b ≡ bodyOf t r → x ≡ getD bodies b 0 → x ≡ bodyOf t (r + 1)
   end-leads-back r k b x bodies B l e h d g =
       let q = p .rows in
       g ∙ B .body b (end-body-below r k b l e h d) ∙ ap (bodyOf t) d ∙ sym (ap (bodyOf t) (add-one r) ∙ body-after-end t (p .right) r (omega arith) (sym e ∙ h))
 
-  pub other-stays : (r k b : ℕ) → k ≡ kindOf t r → k ≢ 4 → k ≢ 7 → b ≡ bodyOf t r → b ≡ bodyOf t (r + 1)
+  pub other-stays : (r k b : ℕ) → k ≡ kindAt t r → k ≢ 4 → k ≢ 7 → b ≡ bodyOf t r → b ≡ bodyOf t (r + 1)
   other-stays r k b e a c d = d ∙ sym (ap (bodyOf t) (add-one r) ∙ body-after-other t r (λ z. a (e ∙ z)) (λ z. c (e ∙ z)))
 
   -- ---- all rows
@@ -55,30 +55,30 @@ module _ (t : List ℕ) (n : ℕ) (p : Passing t n) where
   fewer-noted r m bodies l B = record { long = B .long; body = λ k h. B .body k (omega arith) }
 
   -- ---- homes, and where operands are read
-  pub start-home : (v k : ℕ) → k ≡ kindOf t v → k ≤ 1 → n ≡ home t v
+  pub start-home : (v k : ℕ) → k ≡ kindAt t v → k ≤ 1 → n ≡ home t v
   start-home v k e h = p .rows ∙ sym (S .start-home v (omega arith))
 
-  pub for-home : (v k : ℕ) → k ≡ kindOf t v → k ≡ 4 → v ≡ home t v
+  pub for-home : (v k : ℕ) → k ≡ kindAt t v → k ≡ 4 → v ≡ home t v
   for-home v k e h = sym (S .for-home v (sym e ∙ h))
 
-  pub next-body-below : (v k b : ℕ) (bodies : List ℕ) → Bodies t n bodies → v < n → k ≡ kindOf t v → k ≡ 6 → b ≡ getD bodies v 0 → b < n
+  pub next-body-below : (v k b : ℕ) (bodies : List ℕ) → Bodies t n bodies → v < n → k ≡ kindAt t v → k ≡ 6 → b ≡ getD bodies v 0 → b < n
   next-body-below v k b bodies B l e h d = let q = p .rows in let z = S .next-row v (omega arith) (sym e ∙ h) .below in let w = B .body v l in omega arith
 
-  pub next-home : (v k b x : ℕ) (bodies : List ℕ) → Bodies t n bodies → v < n → k ≡ kindOf t v → k ≡ 6 → b ≡ getD bodies v 0 → x ≡ getD bodies b 0 → x ≡ home t v
+  pub next-home : (v k b x : ℕ) (bodies : List ℕ) → Bodies t n bodies → v < n → k ≡ kindAt t v → k ≡ 6 → b ≡ getD bodies v 0 → x ≡ getD bodies b 0 → x ≡ home t v
   next-home v k b x bodies B l e h d g =
       let q = p .rows in
       g ∙ B .body b (next-body-below v k b bodies B l e h d) ∙ ap (bodyOf t) (d ∙ B .body v l) ∙ sym (S .next-home v (omega arith) (sym e ∙ h))
 
-  pub other-home : (v k x : ℕ) (bodies : List ℕ) → Bodies t n bodies → v < n → k ≡ kindOf t v → 1 < k → k ≢ 4 → k ≢ 6 → x ≡ getD bodies v 0 → x ≡ home t v
+  pub other-home : (v k x : ℕ) (bodies : List ℕ) → Bodies t n bodies → v < n → k ≡ kindAt t v → 1 < k → k ≢ 4 → k ≢ 6 → x ≡ getD bodies v 0 → x ≡ home t v
   other-home v k x bodies B l e a b c g = g ∙ B .body v l ∙ sym (home-here t v (omega arith) (λ z. b (e ∙ z)) (λ z. c (e ∙ z)))
 
-  pub arg-body-below : (v k b : ℕ) (bodies : List ℕ) → Bodies t n bodies → v < n → k ≡ kindOf t v → k ≡ 5 → b ≡ getD bodies v 0 → b < n
+  pub arg-body-below : (v k b : ℕ) (bodies : List ℕ) → Bodies t n bodies → v < n → k ≡ kindAt t v → k ≡ 5 → b ≡ getD bodies v 0 → b < n
   arg-body-below v k b bodies B l e h d = let q = p .rows in let z = S .arg-row v (omega arith) (sym e ∙ h) .low in let w = B .body v l in omega arith
 
-  pub arg-reads : (v k b x : ℕ) (bodies : List ℕ) → Bodies t n bodies → v < n → k ≡ kindOf t v → k ≡ 5 → b ≡ getD bodies v 0 → x ≡ getD bodies b 0 → x ≡ reads t v
+  pub arg-reads : (v k b x : ℕ) (bodies : List ℕ) → Bodies t n bodies → v < n → k ≡ kindAt t v → k ≡ 5 → b ≡ getD bodies v 0 → x ≡ getD bodies b 0 → x ≡ reads t v
   arg-reads v k b x bodies B l e h d g =
       let q = p .rows in
       g ∙ B .body b (arg-body-below v k b bodies B l e h d) ∙ ap (bodyOf t) (d ∙ B .body v l) ∙ sym (S .arg-reads v (omega arith) (sym e ∙ h))
 
-  pub other-reads : (v k x : ℕ) (bodies : List ℕ) → Bodies t n bodies → v < n → k ≡ kindOf t v → k ≢ 5 → x ≡ getD bodies v 0 → x ≡ reads t v
+  pub other-reads : (v k x : ℕ) (bodies : List ℕ) → Bodies t n bodies → v < n → k ≡ kindAt t v → k ≢ 5 → x ≡ getD bodies v 0 → x ≡ reads t v
   other-reads v k x bodies B l e a g = g ∙ B .body v l ∙ sym (S .reads-body v (λ z. a (e ∙ z)))

@@ -8,7 +8,7 @@ use mathlib.Core.List.{List}
 use native.Mathlib.Omega.{arith}
 use lib.Dec.{eqb, leb}
 use lib.ListN.{getD}
-use Rattle.table.specs.Rows.{kindOf, size}
+use Rattle.table.specs.Rows.{kindAt, size}
 use Rattle.table.specs.Bodies.{argOf}
 use Rattle.structure.specs.Structure.{Structure}
 use Rattle.laid.specs.Reached.{in-table}
@@ -16,11 +16,11 @@ use Rattle.laid.specs.Bases.{wireBase}
 use Rattle.laid.specs.Wired.{homeNumber}
 use Rattle.carrying.specs.Kept.{Bases, homeFrom}
 
-pub home-from-bases : (t nodes wires : List ℕ) (v : ℕ) → Bases t nodes wires → Structure t → v < size t → kindOf t v ≤ 6 → homeFrom t wires v ≡ homeNumber t v
+pub home-from-bases : (t nodes wires : List ℕ) (v : ℕ) → Bases t nodes wires → Structure t → v < size t → kindAt t v ≤ 6 → homeFrom t wires v ≡ homeNumber t v
 unfolding homeFrom homeNumber
-home-from-bases t nodes wires v B S l h = go (kindOf t v) refl h
+home-from-bases t nodes wires v B S l h = go (kindAt t v) refl h
   where
-    go : (k : ℕ) → kindOf t v ≡ k → k ≤ 6
+    go : (k : ℕ) → kindAt t v ≡ k → k ≤ 6
         → cond (leb k 1) v (cond (leb k 3) (getD wires v 0) (cond (eqb k 4) (getD wires v 0 + 2) (cond (eqb k 5) (getD wires v 0 + 1) (getD wires (argOf t v) 0 + 2))))
         ≡ cond (leb k 1) v (cond (leb k 3) (wireBase t v) (cond (eqb k 4) (wireBase t v + 2) (cond (eqb k 5) (wireBase t v + 1) (wireBase t (argOf t v) + 2))))
     go zero e h = refl

@@ -16,7 +16,7 @@ use mathlib.Core.Logic.{_⊎_}
 use mathlib.Core.List.{List}
 use lib.Dec.{eqb, leb}
 use lib.ListN.{length, getD}
-use Rattle.table.specs.Rows.{kindOf, size, operandCount}
+use Rattle.table.specs.Rows.{kindAt, size, operandCount}
 use Rattle.table.specs.Scan.{bodyOf, home}
 use Rattle.table.specs.Bodies.{operand, argOf, nextOf}
 use Rattle.table.specs.Right.{TableRight}
@@ -36,17 +36,17 @@ pub record Bodies (t : List ℕ) (r : ℕ) (bodies : List ℕ) : Type 0 where
 -- The ARG at each NEXT, the NEXT at each ARG.
 pub record Pairs (t pairs : List ℕ) : Type 0 where
   pub long : length pairs ≡ 512
-  pub arg : (x : ℕ) → x < size t → kindOf t x ≡ 6 → getD pairs x 0 ≡ argOf t x
-  pub next : (a : ℕ) → a < size t → kindOf t a ≡ 5 → getD pairs a 0 ≡ nextOf t a
+  pub arg : (x : ℕ) → x < size t → kindAt t x ≡ 6 → getD pairs x 0 ≡ argOf t x
+  pub next : (a : ℕ) → a < size t → kindAt t a ≡ 5 → getD pairs a 0 ≡ nextOf t a
 
 -- Of the NEXTs before row r.
 pub record PairsBefore (t : List ℕ) (r : ℕ) (pairs : List ℕ) : Type 0 where
   pub long : length pairs ≡ 512
-  pub arg : (x : ℕ) → x < r → kindOf t x ≡ 6 → getD pairs x 0 ≡ argOf t x
-  pub next : (a : ℕ) → a < size t → kindOf t a ≡ 5 → nextOf t a < r → getD pairs a 0 ≡ nextOf t a
+  pub arg : (x : ℕ) → x < r → kindAt t x ≡ 6 → getD pairs x 0 ≡ argOf t x
+  pub next : (a : ℕ) → a < size t → kindAt t a ≡ 5 → nextOf t a < r → getD pairs a 0 ≡ nextOf t a
 
 abbrev pub IsUse : List ℕ → ℕ → ℕ → Type 0
-IsUse t r j = (r < size t) × (j < operandCount (kindOf t r))
+IsUse t r j = (r < size t) × (j < operandCount (kindAt t r))
 
 -- 0, or one more than the place of an operand that names v; operand j of row r has place 3 * r + j
 abbrev pub UseOrNone : List ℕ → ℕ → ℕ → Type 0
@@ -65,7 +65,7 @@ pub record Uses (t : List ℕ) (p : ℕ) (heads links : List ℕ) : Type 0 where
 
 pub record Counted (t counts : List ℕ) : Type 0 where
   pub long : length counts ≡ 512
-  pub count : (L : ℕ) → L < size t → kindOf t L ≡ 4 → getD counts L 0 ≡ length (carriedInto t L)
+  pub count : (L : ℕ) → L < size t → kindAt t L ≡ 4 → getD counts L 0 ≡ length (carriedInto t L)
 
 pub record Bases (t nodes wires : List ℕ) : Type 0 where
   pub nodes-long : length nodes ≡ 512
@@ -80,11 +80,11 @@ Low wires = (r : ℕ) → getD wires r 0 ≤ 100000000
 -- the number of a value's wire at home, where `wires` has the first output of each row
 unfoldable pub homeFrom : List ℕ → List ℕ → ℕ → ℕ
 homeFrom t wires v =
-    cond (leb (kindOf t v) 1) v
-    (cond (leb (kindOf t v) 3) (getD wires v 0)
-    (cond (eqb (kindOf t v) 4) (getD wires v 0 + 2) (cond (eqb (kindOf t v) 5) (getD wires v 0 + 1) (getD wires (argOf t v) 0 + 2))))
+    cond (leb (kindAt t v) 1) v
+    (cond (leb (kindAt t v) 3) (getD wires v 0)
+    (cond (eqb (kindAt t v) 4) (getD wires v 0 + 2) (cond (eqb (kindAt t v) 5) (getD wires v 0 + 1) (getD wires (argOf t v) 0 + 2))))
 
 -- Body b is home to value v, or a loop inside its home: where the way of v may start.
 pub record OnTheWay (t : List ℕ) (v b : ℕ) : Type 0 where
   pub around : Encloses t (home t v) b
-  pub body : (b ≡ size t) ⊎ ((b < size t) × (kindOf t b ≡ 4))
+  pub body : (b ≡ size t) ⊎ ((b < size t) × (kindAt t b ≡ 4))

@@ -7,7 +7,7 @@ use mathlib.Core.Logic.{_≢_}
 use mathlib.Core.Bool.{true}
 use mathlib.Core.List.{List, [], _∷_}
 use native.Mathlib.Omega.{arith}
-use Rattle.table.specs.Rows.{kindOf, size}
+use Rattle.table.specs.Rows.{kindAt, size}
 use Rattle.table.specs.Scan.{Loop, stackAt, bodyOf, atHead, oneNext}
 use Rattle.table.specs.Check.{argLeft}
 use Rattle.table.specs.Bodies.{nextsIn, argOf}
@@ -22,7 +22,7 @@ some-loop [] h = let z : _≡_ {A = ℕ} 0 1 = cc in absurd (omega arith)
 some-loop (l ∷ o) h = (l, o, refl)
 
 module _ (t : List ℕ) (ok : TableRight t) where
-  pub behind-next-serves : (y : ℕ) → suc y < size t → kindOf t y ≡ 6 → argOf t (suc y) ≡ suc (argOf t y)
+  pub behind-next-serves : (y : ℕ) → suc y < size t → kindAt t y ≡ 6 → argOf t (suc y) ≡ suc (argOf t y)
   unfolding argOf
   behind-next-serves y l k =
       let s = some-loop (stackAt t y) (next-has-arg t y (ok .row y (omega arith)) k) in
@@ -31,7 +31,7 @@ module _ (t : List ℕ) (ok : TableRight t) where
       let c = body-after-other t y (λ z. omega arith) (λ z. omega arith) in
       omega arith
 
-  pub first-next-serves : (y : ℕ) → suc y < size t → kindOf t (suc y) ≡ 6 → kindOf t y ≢ 6 → argOf t (suc y) ≡ suc (bodyOf t (suc y))
+  pub first-next-serves : (y : ℕ) → suc y < size t → kindAt t (suc y) ≡ 6 → kindAt t y ≢ 6 → argOf t (suc y) ≡ suc (bodyOf t (suc y))
   unfolding argOf
   first-next-serves y l k n =
       let s = some-loop (stackAt t (suc y)) (next-has-arg t (suc y) (ok .row (suc y) l) k) in

@@ -11,7 +11,7 @@ use mathlib.Core.Logic.{_≢_, _⊎_, inl, inr}
 use mathlib.Core.List.{List}
 use native.Mathlib.Omega.{arith}
 use lib.ListN.{getD}
-use Rattle.table.specs.Rows.{kindOf, size}
+use Rattle.table.specs.Rows.{kindAt, size}
 use Rattle.table.specs.Scan.{bodyOf, home}
 use Rattle.structure.specs.Depth.{depth, depth-falls, eight-at-most}
 use Rattle.structure.specs.Spans.{Encloses}
@@ -24,10 +24,10 @@ module _ (t : List ℕ) (n : ℕ) (p : Passing t n) where
   S = right-table-has-structure t (p .right)
 
   -- a body on the way that is not home is a loop
-  pub is-loop : (v h b : ℕ) → h ≡ home t v → b ≢ h → OnTheWay t v b → (b < size t) × (kindOf t b ≡ 4)
+  pub is-loop : (v h b : ℕ) → h ≡ home t v → b ≢ h → OnTheWay t v b → (b < size t) × (kindAt t b ≡ 4)
   is-loop v h b e d w = go (w .body)
     where
-      go : (b ≡ size t) ⊎ ((b < size t) × (kindOf t b ≡ 4)) → (b < size t) × (kindOf t b ≡ 4)
+      go : (b ≡ size t) ⊎ ((b < size t) × (kindAt t b ≡ 4)) → (b < size t) × (kindAt t b ≡ 4)
       go (inl q) = absurd (d (q ∙ sym (at-the-rim t S (home t v) (subst (Encloses t (home t v)) q (w .around))) ∙ sym e))
       go (inr q) = q
 

@@ -4,7 +4,7 @@ ghost use Prim.Native.Nat.{ℕ, _+_, _*_, _<_, _≤_};
 ghost use lib.Dec.{eqb, leb};
 ghost use lib.ListN.{length, getD};
 ghost use Rattle.word.specs.Words.{flag};
-ghost use Rattle.table.specs.Rows.{kindOf, size};
+ghost use Rattle.table.specs.Rows.{kindAt, size};
 ghost use Rattle.table.specs.Bodies.{argOf};
 ghost use Rattle.table.specs.Scan.{bodyOf, home, reads};
 ghost use Rattle.lowered.specs.Lower.{startTotal, resultTotal, plainNodes, plainWires};
@@ -99,7 +99,7 @@ pub fn reads_of(table: &[u32], bodies: &[u32; 512], r: u32) -> u32
 
 // The number of row v's wire at home, from the first output of each row.
 pub fn home_wire(table: &[u32], pairs: &[u32; 512], wires: &[u32; 512], v: u32) -> u32
-    requires { ⌜ Passing (now table) (size (now table)) × Pairs (now table) (now pairs) × Low (now wires) × (v < size (now table)) × (kindOf (now table) v ≤ 6) ⌝ }
+    requires { ⌜ Passing (now table) (size (now table)) × Pairs (now table) (now pairs) × Low (now wires) × (v < size (now table)) × (kindAt (now table) v ≤ 6) ⌝ }
     ensures { λ w. ⌜ w ≡ homeFrom (now (table .entry)) (now (wires .entry)) v ⌝ }
 {
     let kind = table::kind_at(table, v);
@@ -266,7 +266,7 @@ pub fn note_uses(table: &[u32], n: u32, heads: &mut [u32; 512], links: &mut [u32
 
 // The ARG that NEXT r serves: the one behind that of the NEXT before it, or the first of the loop.
 fn served_by(table: &[u32], bodies: &[u32; 512], pairs: &[u32; 512], r: u32) -> u32
-    requires { ⌜ Passing (now table) (size (now table)) × Bodies (now table) (size (now table)) (now bodies) × PairsBefore (now table) r (now pairs) × (r < size (now table)) × (kindOf (now table) r ≡ 6) ⌝ }
+    requires { ⌜ Passing (now table) (size (now table)) × Bodies (now table) (size (now table)) (now bodies) × PairsBefore (now table) r (now pairs) × (r < size (now table)) × (kindAt (now table) r ≡ 6) ⌝ }
     ensures { λ a. ⌜ a ≡ argOf (now (table .entry)) r ⌝ }
 {
     let before = r - 1;

@@ -21,7 +21,7 @@ use lib.Seq.{getD-set-same, getD-set-other}
 use Rattle.word.specs.Words.{flag}
 use Rattle.step.specs.Kinds.{outputs}
 use Rattle.graph.specs.Below.{total, total-more}
-use Rattle.table.specs.Rows.{kindOf, size, operandCount, at-most-three}
+use Rattle.table.specs.Rows.{kindAt, size, operandCount, at-most-three}
 use Rattle.table.specs.Bodies.{operand, nextOf}
 use Rattle.table.specs.Check.{answer, tableRefusal}
 use Rattle.structure.specs.Structure.{Structure}
@@ -52,15 +52,15 @@ module _ (t : List ℕ) (L : ℕ) where
 -- loops before row r are noted
 pub record CountedBefore (t : List ℕ) (r : ℕ) (noted : List ℕ) : Type 0 where
   pub long : length noted ≡ 512
-  pub count : (L : ℕ) → L < r → kindOf t L ≡ 4 → getD noted L 0 ≡ length (carriedInto t L)
+  pub count : (L : ℕ) → L < r → kindAt t L ≡ 4 → getD noted L 0 ≡ length (carriedInto t L)
 
-pub one-noted : (t : List ℕ) (r c : ℕ) (noted : List ℕ) → CountedBefore t r noted → r < 512 → (kindOf t r ≡ 4 → c ≡ length (carriedInto t r)) → CountedBefore t (r + 1) (set noted r c)
+pub one-noted : (t : List ℕ) (r c : ℕ) (noted : List ℕ) → CountedBefore t r noted → r < 512 → (kindAt t r ≡ 4 → c ≡ length (carriedInto t r)) → CountedBefore t (r + 1) (set noted r c)
 one-noted t r c noted C l h = record { long = length-set noted r c ∙ C .long; count = at }
   where
-    at : (L : ℕ) → L < r + 1 → kindOf t L ≡ 4 → getD (set noted r c) L 0 ≡ length (carriedInto t L)
+    at : (L : ℕ) → L < r + 1 → kindAt t L ≡ 4 → getD (set noted r c) L 0 ≡ length (carriedInto t L)
     at L q k =
         elim (ℕ-discrete r L) [
-          | yes e ↦ (let n = C .long in subst (λ (x : ℕ). getD (set noted r c) x 0 ≡ length (carriedInto t x)) e (getD-set-same noted r c 0 (omega arith) ∙ h (subst (λ (x : ℕ). kindOf t x ≡ 4) (sym e) k)))
+          | yes e ↦ (let n = C .long in subst (λ (x : ℕ). getD (set noted r c) x 0 ≡ length (carriedInto t x)) e (getD-set-same noted r c 0 (omega arith) ∙ h (subst (λ (x : ℕ). kindAt t x ≡ 4) (sym e) k)))
           | no e ↦ getD-set-other noted r L c 0 (λ z. e (sym z)) ∙ C .count L (omega arith) k
         ]
 
@@ -77,10 +77,10 @@ module _ (t : List ℕ) (n : ℕ) (P : Passing t n) (heads links : List ℕ) (U 
       go false q = refl
       go true q = absurd (no (named-from t v q))
         where
-          no : (r : ℕ) × (j : ℕ) × (r < size t) × (j < operandCount (kindOf t r)) × (operand t r j ≡ v) → ⊥
+          no : (r : ℕ) × (j : ℕ) × (r < size t) × (j < operandCount (kindAt t r)) × (operand t r j ≡ v) → ⊥
           no m =
               let p = P .rows in
-              let c = at-most-three (kindOf t (m .0)) in
+              let c = at-most-three (kindAt t (m .0)) in
               let lr = m .2 in
               let lj = m .3 in
               let h = U .head-last (m .0) (m .1) (m .2, m .3) (omega arith) in
@@ -90,7 +90,7 @@ module _ (t : List ℕ) (n : ℕ) (P : Passing t n) (heads links : List ℕ) (U 
   pub named-is : v < n → getD heads v 0 ≢ 0 → 0 ≡ flag (not (namedAny t v))
   named-is l e = go (U .head v (let p = P .rows in omega arith))
     where
-      go : (getD heads v 0 ≡ 0) ⊎ ((r : ℕ) × (j : ℕ) × (getD heads v 0 ≡ suc (3 * r + j)) × ((r < size t) × (j < operandCount (kindOf t r))) × (operand t r j ≡ v)) → 0 ≡ flag (not (namedAny t v))
+      go : (getD heads v 0 ≡ 0) ⊎ ((r : ℕ) × (j : ℕ) × (getD heads v 0 ≡ suc (3 * r + j)) × ((r < size t) × (j < operandCount (kindAt t r))) × (operand t r j ≡ v)) → 0 ≡ flag (not (namedAny t v))
       go (inl z) = absurd (e z)
       go (inr m) = rw (named-by t (m .0) (m .1) v (m .3 .0) (m .3 .1) (m .4))
 
@@ -178,7 +178,7 @@ module _ (t : List ℕ) (n : ℕ) (P : Passing t n) {p w u i : ℕ} (ep : p ≡ 
 
 -- ---- one row
 
-module _ (t : List ℕ) (n : ℕ) (P : Passing t n) (r : ℕ) {k : ℕ} (ek : k ≡ kindOf t r) where
+module _ (t : List ℕ) (n : ℕ) (P : Passing t n) (r : ℕ) {k : ℕ} (ek : k ≡ kindAt t r) where
   S : Structure t
   S = structure-of t n P
 
@@ -242,7 +242,7 @@ module _ (t : List ℕ) (n : ℕ) (P : Passing t n) (r : ℕ) {k : ℕ} (ek : k 
       low : r < size t
       low = let p = P .rows in omega arith
 
-      go : (k : ℕ) → k ≡ kindOf t r → k ≤ 5 → k ≢ 4 → k ≢ 5 → o ≡ rowIdle t r
+      go : (k : ℕ) → k ≡ kindAt t r → k ≤ 5 → k ≢ 4 → k ≢ 5 → o ≡ rowIdle t r
       go zero e h a b = eo ∙ sym (idle-of-start t S r low (omega arith))
       go (suc zero) e h a b = eo ∙ sym (idle-of-start t S r low (omega arith))
       go (suc (suc zero)) e h a b = eo ∙ sym (idle-of-op t S r low (inl (sym e)))

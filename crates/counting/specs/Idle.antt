@@ -20,7 +20,7 @@ use lib.ListN.{length, getElem?, length-append}
 use Rattle.word.specs.Words.{flag}
 use Rattle.step.specs.Kinds.{out0, out1}
 use Rattle.graph.specs.Below.{total, times}
-use Rattle.table.specs.Rows.{kindOf, size, operandCount}
+use Rattle.table.specs.Rows.{kindAt, size, operandCount}
 use Rattle.table.specs.Bodies.{operand, nextOf}
 use Rattle.structure.specs.Structure.{Structure}
 use Rattle.lowered.specs.Gathered.{gathered, those, some?, each}
@@ -130,20 +130,20 @@ unfoldable pub namedAny : List ℕ → ℕ → Bool
 namedAny t v = some? (λ r. names t r v) (size t)
 
 module _ (t : List ℕ) where
-  pub named-from : (v : ℕ) → namedAny t v ≡ true → (r : ℕ) × (j : ℕ) × (r < size t) × (j < operandCount (kindOf t r)) × (operand t r j ≡ v)
+  pub named-from : (v : ℕ) → namedAny t v ≡ true → (r : ℕ) × (j : ℕ) × (r < size t) × (j < operandCount (kindAt t r)) × (operand t r j ≡ v)
   unfolding namedAny names
   named-from v h =
-      let a = some-from (λ r. some? (λ j. eqb (operand t r j) v) (operandCount (kindOf t r))) (size t) h in
-      let b = some-from (λ j. eqb (operand t (a .0) j) v) (operandCount (kindOf t (a .0))) (a .2) in
+      let a = some-from (λ r. some? (λ j. eqb (operand t r j) v) (operandCount (kindAt t r))) (size t) h in
+      let b = some-from (λ j. eqb (operand t (a .0) j) v) (operandCount (kindAt t (a .0))) (a .2) in
       (a .0, b .0, a .1, b .1, eqb-true (operand t (a .0) (b .0)) v (b .2))
 
-  pub named-by : (r j v : ℕ) → r < size t → j < operandCount (kindOf t r) → operand t r j ≡ v → namedAny t v ≡ true
+  pub named-by : (r j v : ℕ) → r < size t → j < operandCount (kindAt t r) → operand t r j ≡ v → namedAny t v ≡ true
   unfolding namedAny names
   named-by r j v l h e =
-      some-has (λ r. some? (λ j. eqb (operand t r j) v) (operandCount (kindOf t r))) (size t) r l
-      (some-has (λ j. eqb (operand t r j) v) (operandCount (kindOf t r)) j h (eq-eqb (operand t r j) v e))
+      some-has (λ r. some? (λ j. eqb (operand t r j) v) (operandCount (kindAt t r))) (size t) r l
+      (some-has (λ j. eqb (operand t r j) v) (operandCount (kindAt t r)) j h (eq-eqb (operand t r j) v e))
 
-  named-not : (v : ℕ) → namedAny t v ≡ false → (r : ℕ) × (j : ℕ) × (r < size t) × (j < operandCount (kindOf t r)) × (operand t r j ≡ v) → ⊥
+  named-not : (v : ℕ) → namedAny t v ≡ false → (r : ℕ) × (j : ℕ) × (r < size t) × (j < operandCount (kindAt t r)) × (operand t r j ≡ v) → ⊥
   named-not v e n = false≢true (sym e ∙ named-by (n .0) (n .1) v (n .2) (n .3) (n .4))
 
   carried-in : (L v : ℕ) → Among v (carriedInto t L) → (v < size t) × (carried t L v ≡ true)
@@ -257,14 +257,14 @@ module _ (t : List ℕ) where
         go [] h = refl
         go (x ∷ us) h = absurd (h x (inl refl))
 
-    idle-home : (v : ℕ) → v < size t → kindOf t v ≤ 6 → idle (homeWire t v) ≡ flag (not (namedAny t v))
+    idle-home : (v : ℕ) → v < size t → kindAt t v ≤ 6 → idle (homeWire t v) ≡ flag (not (namedAny t v))
     idle-home v l k = go (namedAny t v) refl
       where
         go : (b : Bool) → namedAny t v ≡ b → idle (homeWire t v) ≡ flag (not b)
         go true e = let n = named-from t v e in idle-used (homeWire t v) (subst (λ (x : ℕ). Used t S (homeWire t x)) (n .4) (value-used t S (n .0) (n .1) (n .2) (n .3)))
         go false e = idle-unused (homeWire t v) (λ u. named-not t v e (used-is-named t S v l k u))
 
-    loop-idle : (L : ℕ) → L < size t → kindOf t L ≡ 4
+    loop-idle : (L : ℕ) → L < size t → kindAt t L ≡ 4
         → (idle (output (guard L) out0) ≡ flag (eqb (length (carriedInto t L)) 0)) × (idle (output (gate L) out1) ≡ flag (eqb (length (carriedInto t L)) 0))
     loop-idle L l k = go (carriedInto t L) (carried-in t L) (in-carried t L)
       where
@@ -279,7 +279,7 @@ module _ (t : List ℕ) where
             rw (ne-eqb (suc (length vs)) 0 (λ z. omega arith))
             (idle-used (output (guard L) out0) (guard-used t S L l k v (c .0) (c .1)), idle-used (output (gate L) out1) (condition-used t S L l k v (c .0) (c .1)))
 
-    copies-idle : (L : ℕ) → L < size t → kindOf t L ≡ 4 → (vs : List ℕ) → ((v : ℕ) → Among v vs → (v < size t) × (carried t L v ≡ true))
+    copies-idle : (L : ℕ) → L < size t → kindAt t L ≡ 4 → (vs : List ℕ) → ((v : ℕ) → Among v vs → (v < size t) × (carried t L v ≡ true))
         → sumOf idle (each (λ v. output (copySplit L v) out0 ∷ output (copySplit L v) out1 ∷ output (copyInvariant L v) out0 ∷ []) vs) ≡ length vs
     unfolding each
     copies-idle L l k [] f = refl
@@ -293,35 +293,35 @@ module _ (t : List ℕ) where
 
     -- ---- by kind
 
-    outputs-idle : (r : ℕ) → 1 < kindOf t r → rowIdle r ≡ sumOf idle (each (roleOutputs t) (rowRoles t r))
+    outputs-idle : (r : ℕ) → 1 < kindAt t r → rowIdle r ≡ sumOf idle (each (roleOutputs t) (rowRoles t r))
     unfolding rowIdle each
-    outputs-idle r h = rw (lt-leb (kindOf t r) 1 h) (omega arith)
+    outputs-idle r h = rw (lt-leb (kindAt t r) 1 h) (omega arith)
 
-    pub idle-of-start : (r : ℕ) → r < size t → kindOf t r ≤ 1 → rowIdle r ≡ flag (not (namedAny t r))
+    pub idle-of-start : (r : ℕ) → r < size t → kindAt t r ≤ 1 → rowIdle r ≡ flag (not (namedAny t r))
     unfolding rowIdle each
     idle-of-start r l k =
         let e = no-roles t r (λ z. omega arith) (λ z. omega arith) (λ z. omega arith) (λ z. omega arith) in
         let i : idle (start r) ≡ flag (not (namedAny t r)) = ap idle (sym (home-of-start t r k)) ∙ idle-home r l (omega arith) in
-        rw (le-leb (kindOf t r) 1 k, e) (omega arith)
+        rw (le-leb (kindAt t r) 1 k, e) (omega arith)
 
-    pub idle-of-op : (r : ℕ) → r < size t → (kindOf t r ≡ 2) ⊎ (kindOf t r ≡ 3) → rowIdle r ≡ flag (not (namedAny t r))
+    pub idle-of-op : (r : ℕ) → r < size t → (kindAt t r ≡ 2) ⊎ (kindAt t r ≡ 3) → rowIdle r ≡ flag (not (namedAny t r))
     idle-of-op r l k =
         let i : idle (output (opNode r) out0) ≡ flag (not (namedAny t r)) = ap idle (sym (home-of-op t r k)) ∙ idle-home r l (low k) in
         outputs-idle r (high k) ∙ ap (sumOf idle) (op-outputs t r (is-op k)) ∙ (let z : idle (output (opNode r) out0) + 0 ≡ flag (not (namedAny t r)) = omega arith in z)
       where
-        low : (kindOf t r ≡ 2) ⊎ (kindOf t r ≡ 3) → kindOf t r ≤ 6
+        low : (kindAt t r ≡ 2) ⊎ (kindAt t r ≡ 3) → kindAt t r ≤ 6
         low (inl e) = omega arith
         low (inr e) = omega arith
 
-        high : (kindOf t r ≡ 2) ⊎ (kindOf t r ≡ 3) → 1 < kindOf t r
+        high : (kindAt t r ≡ 2) ⊎ (kindAt t r ≡ 3) → 1 < kindAt t r
         high (inl e) = omega arith
         high (inr e) = omega arith
 
-        is-op : (kindOf t r ≡ 2) ⊎ (kindOf t r ≡ 3) → isOp t r ≡ true
+        is-op : (kindAt t r ≡ 2) ⊎ (kindAt t r ≡ 3) → isOp t r ≡ true
         is-op (inl e) = rw e
         is-op (inr e) = rw e
 
-    pub idle-of-for : (L : ℕ) → L < size t → kindOf t L ≡ 4 → rowIdle L ≡ flag (not (namedAny t L)) + length (carriedInto t L) + 2 * flag (eqb (length (carriedInto t L)) 0)
+    pub idle-of-for : (L : ℕ) → L < size t → kindAt t L ≡ 4 → rowIdle L ≡ flag (not (namedAny t L)) + length (carriedInto t L) + 2 * flag (eqb (length (carriedInto t L)) 0)
     idle-of-for L l k =
         let a = idle-used (output (stream L) out0) (index-used t S L l k) in
         let b = idle-used (output (stream L) out1) (raw-used t S L l k) in
@@ -335,7 +335,7 @@ module _ (t : List ℕ) where
         + sumOf idle (each (λ v. output (copySplit L v) out0 ∷ output (copySplit L v) out1 ∷ output (copyInvariant L v) out0 ∷ []) (carriedInto t L))))))
         ≡ flag (not (namedAny t L)) + length (carriedInto t L) + 2 * flag (eqb (length (carriedInto t L)) 0) = omega arith in z)
 
-    pub idle-of-arg : (a : ℕ) → a < size t → kindOf t a ≡ 5 → rowIdle a ≡ flag (not (namedAny t a)) + flag (not (namedAny t (nextOf t a)))
+    pub idle-of-arg : (a : ℕ) → a < size t → kindAt t a ≡ 5 → rowIdle a ≡ flag (not (namedAny t a)) + flag (not (namedAny t (nextOf t a)))
     idle-of-arg a l k =
         let n = S .arg-row a l k in
         let nk = n .next-kind in
@@ -346,33 +346,33 @@ module _ (t : List ℕ) where
         outputs-idle a (omega arith) ∙ ap (sumOf idle) (arg-outputs t a k)
         ∙ (let q : idle (output (carry a) out0) + (idle (output (argSplit a) out0) + (idle (output (argSplit a) out1) + 0)) ≡ flag (not (namedAny t a)) + flag (not (namedAny t (nextOf t a))) = omega arith in q)
 
-    pub idle-of-other : (r : ℕ) → 5 < kindOf t r → rowIdle r ≡ 0
+    pub idle-of-other : (r : ℕ) → 5 < kindAt t r → rowIdle r ≡ 0
     unfolding each
     idle-of-other r h =
         outputs-idle r (omega arith)
         ∙ ap (λ (ns : List Role). sumOf idle (each (roleOutputs t) ns)) (no-roles t r (λ z. omega arith) (λ z. omega arith) (λ z. omega arith) (λ z. omega arith))
 
   -- the uses of a row, by its kind
-  pub uses-of-op : (r : ℕ) → kindOf t r ≡ 2 → rowUses r ≡ 2
+  pub uses-of-op : (r : ℕ) → kindAt t r ≡ 2 → rowUses r ≡ 2
   unfolding rowUses rowSources
   uses-of-op r k = rw k
 
-  pub uses-of-pick : (r : ℕ) → kindOf t r ≡ 3 → rowUses r ≡ 3
+  pub uses-of-pick : (r : ℕ) → kindAt t r ≡ 3 → rowUses r ≡ 3
   unfolding rowUses rowSources
   uses-of-pick r k = rw k
 
-  pub uses-of-for : (L : ℕ) → kindOf t L ≡ 4 → rowUses L ≡ 7 + 4 * length (carriedInto t L)
+  pub uses-of-for : (L : ℕ) → kindAt t L ≡ 4 → rowUses L ≡ 7 + 4 * length (carriedInto t L)
   unfolding rowUses rowSources
   uses-of-for L k = let c = length-pieces (copySources t L) 4 (λ v. refl) (carriedInto t L) in rw k (omega arith)
 
-  pub uses-of-arg : (r : ℕ) → kindOf t r ≡ 5 → rowUses r ≡ 5
+  pub uses-of-arg : (r : ℕ) → kindAt t r ≡ 5 → rowUses r ≡ 5
   unfolding rowUses rowSources
   uses-of-arg r k = rw k
 
-  pub uses-of-out : (r : ℕ) → kindOf t r ≡ 8 → rowUses r ≡ 1
+  pub uses-of-out : (r : ℕ) → kindAt t r ≡ 8 → rowUses r ≡ 1
   unfolding rowUses rowSources
   uses-of-out r k = rw k
 
-  pub uses-of-other : (r : ℕ) → kindOf t r ≢ 2 → kindOf t r ≢ 3 → kindOf t r ≢ 4 → kindOf t r ≢ 5 → kindOf t r ≢ 8 → rowUses r ≡ 0
+  pub uses-of-other : (r : ℕ) → kindAt t r ≢ 2 → kindAt t r ≢ 3 → kindAt t r ≢ 4 → kindAt t r ≢ 5 → kindAt t r ≢ 8 → rowUses r ≡ 0
   unfolding rowUses rowSources
-  uses-of-other r a b c d e = rw (ne-eqb (kindOf t r) 2 a, ne-eqb (kindOf t r) 3 b, ne-eqb (kindOf t r) 4 c, ne-eqb (kindOf t r) 5 d, ne-eqb (kindOf t r) 8 e)
+  uses-of-other r a b c d e = rw (ne-eqb (kindAt t r) 2 a, ne-eqb (kindAt t r) 3 b, ne-eqb (kindAt t r) 4 c, ne-eqb (kindAt t r) 5 d, ne-eqb (kindAt t r) 8 e)

@@ -17,7 +17,7 @@ use native.Mathlib.Decide.{ℕ-discrete}
 use borrow.Author.Tests.{eq-eqb, ne-eqb, eqb-true}
 use lib.Dec.{eqb}
 use Rattle.step.specs.Kinds.{Input, in0, in1, in2, Output, out0, out1}
-use Rattle.table.specs.Rows.{kindOf, size, operandCount}
+use Rattle.table.specs.Rows.{kindAt, size, operandCount}
 use Rattle.table.specs.Scan.{bodyOf, reads, home}
 use Rattle.table.specs.Bodies.{operand, argOf, nextOf}
 use Rattle.structure.specs.Spans.{Encloses}
@@ -41,23 +41,23 @@ module _ (t : List ℕ) (S : Structure t) where
   used-by n k w l e = let s = node-feed t n k (l .there) ∙ e in (into n k, users-has t w (into n k) (node-use-is-listed t n k w l s) s)
 
   -- ---- nodes of the table
-  op-real : (r : ℕ) → r < size t → (kindOf t r ≡ 2) ⊎ (kindOf t r ≡ 3) → Real t (opNode r)
+  op-real : (r : ℕ) → r < size t → (kindAt t r ≡ 2) ⊎ (kindAt t r ≡ 3) → Real t (opNode r)
   op-real r l (inl k) = record { row = l; value = l; there = rw k }
   op-real r l (inr k) = record { row = l; value = l; there = rw k }
 
-  module _ (L : ℕ) (l : L < size t) (k : kindOf t L ≡ 4) where
+  module _ (L : ℕ) (l : L < size t) (k : kindAt t L ≡ 4) where
     stream-real : Real t (stream L)
-    stream-real = record { row = l; value = l; there = eq-eqb (kindOf t L) 4 k }
+    stream-real = record { row = l; value = l; there = eq-eqb (kindAt t L) 4 k }
 
     gate-real : Real t (gate L)
-    gate-real = record { row = l; value = l; there = eq-eqb (kindOf t L) 4 k }
+    gate-real = record { row = l; value = l; there = eq-eqb (kindAt t L) 4 k }
 
     module _ (v : ℕ) (lv : v < size t) (c : carried t L v ≡ true) where
       split-real : Real t (copySplit L v)
-      split-real = record { row = l; value = lv; there = and-true (isFor t L) (carried t L v) (eq-eqb (kindOf t L) 4 k) c }
+      split-real = record { row = l; value = lv; there = and-true (isFor t L) (carried t L v) (eq-eqb (kindAt t L) 4 k) c }
 
       copy-real : Real t (copyInvariant L v)
-      copy-real = record { row = l; value = lv; there = and-true (isFor t L) (carried t L v) (eq-eqb (kindOf t L) 4 k) c }
+      copy-real = record { row = l; value = lv; there = and-true (isFor t L) (carried t L v) (eq-eqb (kindAt t L) 4 k) c }
 
       pub leg-used : Used (output (copySplit L v) out0)
       leg-used = used-by (copyInvariant L v) in1 (output (copySplit L v) out0) copy-real refl
@@ -78,22 +78,22 @@ module _ (t : List ℕ) (S : Structure t) where
     pub raw-used : Used (output (stream L) out1)
     raw-used = used-by (gate L) in1 (output (stream L) out1) gate-real refl
 
-  module _ (a : ℕ) (l : a < size t) (k : kindOf t a ≡ 5) where
+  module _ (a : ℕ) (l : a < size t) (k : kindAt t a ≡ 5) where
     carry-real : Real t (carry a)
-    carry-real = record { row = l; value = l; there = eq-eqb (kindOf t a) 5 k }
+    carry-real = record { row = l; value = l; there = eq-eqb (kindAt t a) 5 k }
 
     pub carry-used : Used (output (carry a) out0)
-    carry-used = used-by (argSplit a) in1 (output (carry a) out0) (record { row = l; value = l; there = eq-eqb (kindOf t a) 5 k }) refl
+    carry-used = used-by (argSplit a) in1 (output (carry a) out0) (record { row = l; value = l; there = eq-eqb (kindAt t a) 5 k }) refl
 
   -- ---- operands
-  at-row : (r j : ℕ) → r < size t → j < operandCount (kindOf t r) → Used (valueWire t (operand t r j) (reads t r))
+  at-row : (r j : ℕ) → r < size t → j < operandCount (kindAt t r) → Used (valueWire t (operand t r j) (reads t r))
   unfolding operandCount
-  at-row r j l h = go (kindOf t r) j refl h
+  at-row r j l h = go (kindAt t r) j refl h
     where
-      third : kindOf t r ≡ 3 → wireOf t (roleFeed t (opNode r) in2) ≡ some (valueWire t (operand t r 2) (reads t r))
-      third e = ap (λ (b : Bool). wireOf t (cond b (named t r 2) nothing)) (eq-eqb (kindOf t r) 3 e)
+      third : kindAt t r ≡ 3 → wireOf t (roleFeed t (opNode r) in2) ≡ some (valueWire t (operand t r 2) (reads t r))
+      third e = ap (λ (b : Bool). wireOf t (cond b (named t r 2) nothing)) (eq-eqb (kindAt t r) 3 e)
 
-      go : (k j : ℕ) → kindOf t r ≡ k → j < operandCount k → Used (valueWire t (operand t r j) (reads t r))
+      go : (k j : ℕ) → kindAt t r ≡ k → j < operandCount k → Used (valueWire t (operand t r j) (reads t r))
       go zero j e h = absurd (omega arith)
       go (suc zero) j e h = absurd (omega arith)
       go (suc (suc zero)) zero e h = used-by (opNode r) in0 (valueWire t (operand t r 0) (reads t r)) (op-real r l (inl e)) refl
@@ -117,14 +117,14 @@ module _ (t : List ℕ) (S : Structure t) where
       go (suc (suc (suc (suc (suc (suc zero)))))) (suc j) e h = absurd (omega arith)
       go (suc (suc (suc (suc (suc (suc (suc zero))))))) j e h = absurd (omega arith)
       go (suc (suc (suc (suc (suc (suc (suc (suc zero)))))))) zero e h =
-          let o : isOut t r ≡ true = eq-eqb (kindOf t r) 8 e in
+          let o : isOut t r ≡ true = eq-eqb (kindAt t r) 8 e in
           let f = result-feed t r o in
           (result r, users-has t (valueWire t (operand t r 0) (reads t r)) (result r) (result-use-is-listed t r (valueWire t (operand t r 0) (reads t r)) l o f) f)
       go (suc (suc (suc (suc (suc (suc (suc (suc zero)))))))) (suc j) e h = absurd (omega arith)
       go (suc (suc (suc (suc (suc (suc (suc (suc (suc k))))))))) j e h = let q = S .kinds r l in absurd (omega arith)
 
   -- ---- outward from where a value is read: each body on its way uses the value's wire there
-  module _ (r j : ℕ) (lr : r < size t) (lj : j < operandCount (kindOf t r)) where
+  module _ (r j : ℕ) (lr : r < size t) (lj : j < operandCount (kindAt t r)) where
     abbrev v : ℕ
     v = operand t r j
 
@@ -134,10 +134,10 @@ module _ (t : List ℕ) (S : Structure t) where
     abbrev Passing : ℕ → Type 0
     Passing B = (M : ℕ) → Walks t v M B → Walks t v M (reads t r)
 
-    on : (B : ℕ) → (B < size t) × (kindOf t B ≡ 4) → home t v ≢ B → Passing B → Used (valueWire t v (bodyOf t B))
+    on : (B : ℕ) → (B < size t) × (kindAt t B ≡ 4) → home t v ≢ B → Passing B → Used (valueWire t v (bodyOf t B))
     on B q n p = at-copy B (q .0) (q .1) v low (walked-is-carried t S r j B lr lj (p B (here n)))
 
-    to-home : (m B : ℕ) → B < m → (B < size t) × (kindOf t B ≡ 4) → Encloses t (home t v) B → Passing B → Used (valueWire t v B) → Used (valueWire t v (home t v))
+    to-home : (m B : ℕ) → B < m → (B < size t) × (kindAt t B ≡ 4) → Encloses t (home t v) B → Passing B → Used (valueWire t v B) → Used (valueWire t v (home t v))
     to-home zero B h q e p u = absurd (omega arith)
     to-home (suc m) B h q e p u =
         elim (ℕ-discrete (home t v) B) [
@@ -146,8 +146,8 @@ module _ (t : List ℕ) (S : Structure t) where
               (λ c b i. to-home m (bodyOf t B) c b i (λ M w. p M (further d w)) (on B q d p))
         ]
       where
-        further-out : home t v ≢ B → (bodyOf t B ≡ size t) ⊎ ((bodyOf t B < size t) × (kindOf t (bodyOf t B) ≡ 4)) → Encloses t (home t v) (bodyOf t B)
-            → (bodyOf t B < m → (bodyOf t B < size t) × (kindOf t (bodyOf t B) ≡ 4) → Encloses t (home t v) (bodyOf t B) → Used (valueWire t v (home t v))) → Used (valueWire t v (home t v))
+        further-out : home t v ≢ B → (bodyOf t B ≡ size t) ⊎ ((bodyOf t B < size t) × (kindAt t (bodyOf t B) ≡ 4)) → Encloses t (home t v) (bodyOf t B)
+            → (bodyOf t B < m → (bodyOf t B < size t) × (kindAt t (bodyOf t B) ≡ 4) → Encloses t (home t v) (bodyOf t B) → Used (valueWire t v (home t v))) → Used (valueWire t v (home t v))
         further-out d (inl z) i ih = subst (λ (x : ℕ). Used (valueWire t v x)) (z ∙ sym (at-the-rim t S (home t v) (subst (Encloses t (home t v)) z i))) (on B q d p)
         further-out d (inr b) i ih =
             let bl = b .0 in
@@ -155,7 +155,7 @@ module _ (t : List ℕ) (S : Structure t) where
             let lo = S .body-loop B (omega arith) (λ z. omega arith) .low in
             ih (omega arith) b i
 
-    to-loop : (L B : ℕ) → (B ≡ size t) ⊎ ((B < size t) × (kindOf t B ≡ 4)) → Encloses t (home t v) B → Passing B → Used (valueWire t v B) → Walks t v L B → Used (valueWire t v L)
+    to-loop : (L B : ℕ) → (B ≡ size t) ⊎ ((B < size t) × (kindAt t B ≡ 4)) → Encloses t (home t v) B → Passing B → Used (valueWire t v B) → Walks t v L B → Used (valueWire t v L)
     to-loop L B b e p u (here n) = u
     to-loop L B (inl z) e p u (further n w) = absurd (n (at-the-rim t S (home t v) (subst (Encloses t (home t v)) z e) ∙ sym z))
     to-loop L B (inr q) e p u (further n w) = to-loop L (bodyOf t B) (around-body t S B (q .0)) (out-of t S (home t v) B (q .0) (q .1) n e) (λ M x. p M (further n x)) (on B q n p) w
@@ -166,7 +166,7 @@ module _ (t : List ℕ) (S : Structure t) where
         e : Encloses t (home t v) (reads t r)
         e = S .operands r j lr lj .at-home
 
-        go : (reads t r ≡ size t) ⊎ ((reads t r < size t) × (kindOf t (reads t r) ≡ 4)) → Used (valueWire t v (home t v))
+        go : (reads t r ≡ size t) ⊎ ((reads t r < size t) × (kindAt t (reads t r) ≡ 4)) → Used (valueWire t v (home t v))
         go (inl z) = subst (λ (x : ℕ). Used (valueWire t v x)) (z ∙ sym (at-the-rim t S (home t v) (subst (Encloses t (home t v)) z e))) (at-row r j lr lj)
         go (inr q) = to-home (suc (reads t r)) (reads t r) (omega arith) q e (λ M w. w) (at-row r j lr lj)
 
@@ -182,11 +182,11 @@ module _ (t : List ℕ) (S : Structure t) where
   away-wire v B n = rw (ne-eqb (home t v) B n)
 
   -- A VALUE THAT A ROW NAMES IS USED AT HOME
-  pub value-used : (r j : ℕ) → r < size t → j < operandCount (kindOf t r) → Used (homeWire t (operand t r j))
+  pub value-used : (r j : ℕ) → r < size t → j < operandCount (kindAt t r) → Used (homeWire t (operand t r j))
   value-used r j l h = subst Used (at-home-wire (operand t r j)) (home-used r j l h)
 
   -- A COPY IS USED
-  pub copy-used : (L v : ℕ) → L < size t → kindOf t L ≡ 4 → carried t L v ≡ true → Used (output (copyInvariant L v) out0)
+  pub copy-used : (L v : ℕ) → L < size t → kindAt t L ≡ 4 → carried t L v ≡ true → Used (output (copyInvariant L v) out0)
   copy-used L v l k c =
       let w = carried-is-walked t S L v l k c in
       let n = carried-by t L v c .away in
@@ -196,7 +196,7 @@ module _ (t : List ℕ) (S : Structure t) where
 
   -- a wire that an input or a result takes
   pub data Fed (w : Wire) : Type 0 where
-    by-row : (r j : ℕ) → r < size t → j < operandCount (kindOf t r) → w ≡ valueWire t (operand t r j) (reads t r) → Fed w
+    by-row : (r j : ℕ) → r < size t → j < operandCount (kindAt t r) → w ≡ valueWire t (operand t r j) (reads t r) → Fed w
     by-copy : (L v : ℕ) → carried t L v ≡ true → w ≡ valueWire t v (reads t L) → Fed w
     by-stream : (L : ℕ) (o : Output) → w ≡ output (stream L) o → Fed w
     by-guard : (L v : ℕ) → v < size t → carried t L v ≡ true → w ≡ output (guard L) out0 → Fed w
@@ -207,36 +207,36 @@ module _ (t : List ℕ) (S : Structure t) where
   is : {x w : Wire} → _≡_ {A = Option Wire} (some x) (some w) → w ≡ x
   is e = cc
 
-  row-fed : (r j k : ℕ) (w : Wire) → r < size t → kindOf t r ≡ k → j < operandCount k → _≡_ {A = Option Wire} (some (valueWire t (operand t r j) (reads t r))) (some w) → Fed w
+  row-fed : (r j k : ℕ) (w : Wire) → r < size t → kindAt t r ≡ k → j < operandCount k → _≡_ {A = Option Wire} (some (valueWire t (operand t r j) (reads t r))) (some w) → Fed w
   row-fed r j k w l e h q = by-row r j l (subst (λ (x : ℕ). j < operandCount x) (sym e) h) (is q)
 
   op-fed : (r j : ℕ) (w : Wire) → r < size t → isOp t r ≡ true → j < 2 → _≡_ {A = Option Wire} (some (valueWire t (operand t r j) (reads t r))) (some w) → Fed w
   unfolding operandCount
   op-fed r j w l o h q = elim (op-kind t r o) [ inl e ↦ row-fed r j 2 w l e h q | inr e ↦ row-fed r j 3 w l e (let z : j < 3 = omega arith in z) q ]
 
-  pick-fed : (r : ℕ) (w : Wire) → r < size t → (b : Bool) → eqb (kindOf t r) 3 ≡ b → wireOf t (cond b (named t r 2) nothing) ≡ some w → Fed w
+  pick-fed : (r : ℕ) (w : Wire) → r < size t → (b : Bool) → eqb (kindAt t r) 3 ≡ b → wireOf t (cond b (named t r 2) nothing) ≡ some w → Fed w
   unfolding operandCount
-  pick-fed r w l true e q = row-fed r 2 3 w l (eqb-true (kindOf t r) 3 e) (let z : 2 < 3 = omega arith in z) q
+  pick-fed r w l true e q = row-fed r 2 3 w l (eqb-true (kindAt t r) 3 e) (let z : 2 < 3 = omega arith in z) q
   pick-fed r w l false e q = none-some w q
 
   loop-fed : (L j : ℕ) (w : Wire) → L < size t → isFor t L ≡ true → j < 3 → _≡_ {A = Option Wire} (some (valueWire t (operand t L j) (reads t L))) (some w) → Fed w
   unfolding operandCount
-  loop-fed L j w l f h q = row-fed L j 4 w l (eqb-true (kindOf t L) 4 f) h q
+  loop-fed L j w l f h q = row-fed L j 4 w l (eqb-true (kindAt t L) 4 f) h q
 
   arg-fed : (a : ℕ) (w : Wire) → a < size t → isArgRow t a ≡ true → _≡_ {A = Option Wire} (some (valueWire t (operand t a 0) (reads t a))) (some w) → Fed w
   unfolding operandCount
-  arg-fed a w l f q = row-fed a 0 5 w l (eqb-true (kindOf t a) 5 f) (let z : 0 < 1 = omega arith in z) q
+  arg-fed a w l f q = row-fed a 0 5 w l (eqb-true (kindAt t a) 5 f) (let z : 0 < 1 = omega arith in z) q
 
   next-fed : (a : ℕ) (w : Wire) → a < size t → isArgRow t a ≡ true → _≡_ {A = Option Wire} (some (valueWire t (operand t (nextOf t a) 0) (reads t (nextOf t a)))) (some w) → Fed w
   unfolding operandCount
   next-fed a w l f q =
-      let k = S .arg-row a l (eqb-true (kindOf t a) 5 f) .next-kind in
+      let k = S .arg-row a l (eqb-true (kindAt t a) 5 f) .next-kind in
       row-fed (nextOf t a) 0 6 w (in-table t S (nextOf t a) (λ z. omega arith)) k (let z : 0 < 1 = omega arith in z) q
 
   fed-from : (n : Role) (k : Input) (w : Wire) → Real t n → wireOf t (roleFeed t n k) ≡ some w → Fed w
   fed-from (opNode r) in0 w l e = op-fed r 0 w (l .row) (l .there) (omega arith) e
   fed-from (opNode r) in1 w l e = op-fed r 1 w (l .row) (l .there) (omega arith) e
-  fed-from (opNode r) in2 w l e = pick-fed r w (l .row) (eqb (kindOf t r) 3) refl e
+  fed-from (opNode r) in2 w l e = pick-fed r w (l .row) (eqb (kindAt t r) 3) refl e
   fed-from (stream L) in0 w l e = loop-fed L 0 w (l .row) (l .there) (omega arith) e
   fed-from (stream L) in1 w l e = loop-fed L 1 w (l .row) (l .there) (omega arith) e
   fed-from (stream L) in2 w l e = loop-fed L 2 w (l .row) (l .there) (omega arith) e
@@ -261,7 +261,7 @@ module _ (t : List ℕ) (S : Structure t) where
 
   out-fed : (q : ℕ) (w : Wire) → q < size t → isOut t q ≡ true → _≡_ {A = Option Wire} (some (valueWire t (operand t q 0) (reads t q))) (some w) → Fed w
   unfolding operandCount
-  out-fed q w l o e = row-fed q 0 8 w l (eqb-true (kindOf t q) 8 o) (let z : 0 < 1 = omega arith in z) e
+  out-fed q w l o e = row-fed q 0 8 w l (eqb-true (kindAt t q) 8 o) (let z : 0 < 1 = omega arith in z) e
 
   -- A WIRE THAT IS USED IS ONE OF THESE
   pub used-fed : (w : Wire) → Used w → Fed w
@@ -291,8 +291,8 @@ module _ (t : List ℕ) (S : Structure t) where
   abbrev Plain : ℕ → Type 0
   Plain k = (k ≢ 2) × (k ≢ 3) × (k ≢ 5) × (k ≢ 6) × (k ≢ 7) × (k ≢ 8) × (k ≢ 9) × (k ≢ 10)
 
-  home-is : (v : ℕ) → v < size t → kindOf t v ≤ 6 → Plain (wireWhat (homeWire t v)) × (valueOf (homeWire t v) ≡ v)
-  home-is v l h = go (kindOf t v) refl h
+  home-is : (v : ℕ) → v < size t → kindAt t v ≤ 6 → Plain (wireWhat (homeWire t v)) × (valueOf (homeWire t v) ≡ v)
+  home-is v l h = go (kindAt t v) refl h
     where
       plain : (k : ℕ) → (k ≡ 0) ⊎ ((k ≡ 1) ⊎ ((k ≡ 4) ⊎ ((k ≡ 11) ⊎ (k ≡ 12)))) → Plain k
       plain k (inl e) = ((λ z. omega arith), (λ z. omega arith), (λ z. omega arith), (λ z. omega arith), (λ z. omega arith), (λ z. omega arith), (λ z. omega arith), (λ z. omega arith))
@@ -304,7 +304,7 @@ module _ (t : List ℕ) (S : Structure t) where
       with-wire : (w : Wire) → homeWire t v ≡ w → (wireWhat w ≡ 0) ⊎ ((wireWhat w ≡ 1) ⊎ ((wireWhat w ≡ 4) ⊎ ((wireWhat w ≡ 11) ⊎ (wireWhat w ≡ 12)))) → valueOf w ≡ v → Plain (wireWhat (homeWire t v)) × (valueOf (homeWire t v) ≡ v)
       with-wire w e p q = (subst (λ (x : Wire). Plain (wireWhat x)) (sym e) (plain (wireWhat w) p), ap valueOf e ∙ q)
 
-      go : (k : ℕ) → kindOf t v ≡ k → k ≤ 6 → Plain (wireWhat (homeWire t v)) × (valueOf (homeWire t v) ≡ v)
+      go : (k : ℕ) → kindAt t v ≡ k → k ≤ 6 → Plain (wireWhat (homeWire t v)) × (valueOf (homeWire t v) ≡ v)
       go zero e h = with-wire (start v) (home-of-start t v (omega arith)) (inl refl) refl
       go (suc zero) e h = with-wire (start v) (home-of-start t v (omega arith)) (inl refl) refl
       go (suc (suc zero)) e h = with-wire (output (opNode v) out0) (home-of-op t v (inl e)) (inr (inl refl)) refl
@@ -319,14 +319,14 @@ module _ (t : List ℕ) (S : Structure t) where
   value-cases v B = elim (ℕ-discrete (home t v) B) [ yes e ↦ inl (subst (λ (x : ℕ). valueWire t v x ≡ homeWire t v) e (at-home-wire v)) | no e ↦ inr (away-wire v B e) ]
 
   -- a named value, its row and kind
-  operand-value : (r j : ℕ) → r < size t → j < operandCount (kindOf t r) → (operand t r j < size t) × (kindOf t (operand t r j) ≤ 6)
+  operand-value : (r j : ℕ) → r < size t → j < operandCount (kindAt t r) → (operand t r j < size t) × (kindAt t (operand t r j) ≤ 6)
   operand-value r j l h = let o = S .operands r j l h in let b = o .before in (omega arith, o .is-value)
 
-  copied-value : (L v : ℕ) → carried t L v ≡ true → (v < size t) × (kindOf t v ≤ 6)
-  copied-value L v c = let C = carried-by t L v c in subst (λ (x : ℕ). (x < size t) × (kindOf t x ≤ 6)) (C .is) (operand-value (C .row) (C .place) (C .row-below) (C .place-below))
+  copied-value : (L v : ℕ) → carried t L v ≡ true → (v < size t) × (kindAt t v ≤ 6)
+  copied-value L v c = let C = carried-by t L v c in subst (λ (x : ℕ). (x < size t) × (kindAt t x ≤ 6)) (C .is) (operand-value (C .row) (C .place) (C .row-below) (C .place-below))
 
   -- a wire that is no value's is not taken as one
-  not-value : (w : Wire) (v B : ℕ) → (v < size t) × (kindOf t v ≤ 6) → w ≡ valueWire t v B → Plain (wireWhat w) ⊎ (wireWhat w ≡ 9)
+  not-value : (w : Wire) (v B : ℕ) → (v < size t) × (kindAt t v ≤ 6) → w ≡ valueWire t v B → Plain (wireWhat w) ⊎ (wireWhat w ≡ 9)
   not-value w v B l e =
       elim (value-cases v B) [
         | inl q ↦ inl (subst (λ (x : Wire). Plain (wireWhat x)) (sym (e ∙ q)) (home-is v (l .0) (l .1) .0))
@@ -391,15 +391,15 @@ module _ (t : List ℕ) (S : Structure t) where
 
   -- A VALUE IS USED AT HOME ONLY WHERE A ROW NAMES IT
   abbrev Named : ℕ → Type 0
-  Named v = (r : ℕ) × (j : ℕ) × (r < size t) × (j < operandCount (kindOf t r)) × (operand t r j ≡ v)
+  Named v = (r : ℕ) × (j : ℕ) × (r < size t) × (j < operandCount (kindAt t r)) × (operand t r j ≡ v)
 
-  pub used-is-named : (v : ℕ) → v < size t → kindOf t v ≤ 6 → Used (homeWire t v) → Named v
+  pub used-is-named : (v : ℕ) → v < size t → kindAt t v ≤ 6 → Used (homeWire t v) → Named v
   used-is-named v l k u = go (used-fed (homeWire t v) u)
     where
       p : Plain (wireWhat (homeWire t v))
       p = home-is v l k .0
 
-      same : (x B : ℕ) → (x < size t) × (kindOf t x ≤ 6) → homeWire t v ≡ valueWire t x B → x ≡ v
+      same : (x B : ℕ) → (x < size t) × (kindAt t x ≤ 6) → homeWire t v ≡ valueWire t x B → x ≡ v
       same x B q e =
           elim (value-cases x B) [
             | inl d ↦ sym (home-is x (q .0) (q .1) .1) ∙ sym (ap valueOf (e ∙ d)) ∙ home-is v l k .1

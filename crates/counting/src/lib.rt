@@ -5,7 +5,7 @@ ghost use Prim.Native.Nat.{_+_, _*_, _<_, _≤_};
 ghost use lib.ListN.{length};
 ghost use Rattle.word.specs.Words.{flag};
 ghost use Rattle.graph.specs.Below.{total};
-ghost use Rattle.table.specs.Rows.{kindOf, size};
+ghost use Rattle.table.specs.Rows.{kindAt, size};
 ghost use Rattle.lowered.specs.Lower.{carriedInto};
 ghost use Rattle.carrying.specs.Kept.{Passing, Bodies, Pairs, Uses, Counted};
 ghost use Rattle.counting.specs.Idle.{namedAny, rowUses, rowIdle};
@@ -31,7 +31,7 @@ fn one_if(b: bool) -> u32
 
 // How many values are carried into loop l.
 fn count_carried(table: &[u32], n: u32, bodies: &[u32; 512], l: u32) -> u32
-    requires { ⌜ Passing (now table) n × Bodies (now table) n (now bodies) × (l < n) × (kindOf (now table) l ≡ 4) ⌝ }
+    requires { ⌜ Passing (now table) n × Bodies (now table) n (now bodies) × (l < n) × (kindAt (now table) l ≡ 4) ⌝ }
     ensures { λ c. ⌜ (c ≡ length (carriedInto (now (table .entry)) l)) × (c ≤ 512) ⌝ }
 {
     let marks = naming::mark_loop(table, n, bodies, l);
@@ -47,7 +47,7 @@ fn count_carried(table: &[u32], n: u32, bodies: &[u32; 512], l: u32) -> u32
 // How many values are carried into row r's loop, where it is a FOR.
 fn carried_of(table: &[u32], n: u32, bodies: &[u32; 512], r: u32) -> u32
     requires { ⌜ Passing (now table) n × Bodies (now table) n (now bodies) × (r < n) ⌝ }
-    ensures { λ c. ⌜ ((kindOf (now (table .entry)) r ≡ 4) → c ≡ length (carriedInto (now (table .entry)) r)) ⌝ }
+    ensures { λ c. ⌜ ((kindAt (now (table .entry)) r ≡ 4) → c ≡ length (carriedInto (now (table .entry)) r)) ⌝ }
 {
     if table::kind_at(table, r) == FOR {
         return count_carried(table, n, bodies, r);

@@ -17,7 +17,7 @@ use native.Mathlib.Omega.{arith}
 use native.Mathlib.Decide.{decLt, ℕ-discrete}
 use borrow.Author.Tests.{eq-eqb, eqb-true}
 use lib.Dec.{eqb}
-use Rattle.table.specs.Rows.{kindOf, size, operandCount}
+use Rattle.table.specs.Rows.{kindAt, size, operandCount}
 use Rattle.table.specs.Scan.{stackAt, bodyOf, reads, home, holds}
 use Rattle.table.specs.Bodies.{operand, endOf, firstOf}
 use Rattle.structure.specs.Spans.{Encloses, same, inside, outermost}
@@ -69,7 +69,7 @@ module _ (t : List ℕ) (S : Structure t) where
 
   -- ---- bodies
 
-  pub body-cases : (r : ℕ) → r ≤ size t → (bodyOf t r ≡ size t) ⊎ ((bodyOf t r < size t) × (kindOf t (bodyOf t r) ≡ 4))
+  pub body-cases : (r : ℕ) → r ≤ size t → (bodyOf t r ≡ size t) ⊎ ((bodyOf t r < size t) × (kindAt t (bodyOf t r) ≡ 4))
   body-cases r l =
       elim (ℕ-discrete (bodyOf t r) (size t)) [
         | yes e ↦ inl e
@@ -80,14 +80,14 @@ module _ (t : List ℕ) (S : Structure t) where
   body-for r l = elim (body-cases r l) [ inl e ↦ inl e | inr k ↦ inr (Tables.for-row t S (bodyOf t r) (k .1)) ]
 
   -- first and last rows of loops
-  pub first-is : (L : ℕ) → kindOf t L ≡ 4 → tb .first L ≡ firstOf t L
+  pub first-is : (L : ℕ) → kindAt t L ≡ 4 → tb .first L ≡ firstOf t L
   first-is L k = Tables.first-of t L (let l = Tables.below-by-kind t S L 3 k in omega arith)
 
-  pub last-is : (L : ℕ) → kindOf t L ≡ 4 → tb .last L ≡ endOf t L
+  pub last-is : (L : ℕ) → kindAt t L ≡ 4 → tb .last L ≡ endOf t L
   last-is L k = Tables.last-of t L (let l = Tables.below-by-kind t S L 3 k in omega arith)
 
   -- what is enclosed starts later and ends earlier
-  enclosed : (M B : ℕ) → M < size t → kindOf t M ≡ 4 → (B ≡ size t) ⊎ ((B < size t) × (kindOf t B ≡ 4)) → Encloses t M B → (tb .first M ≤ tb .first B) × (tb .last B ≤ tb .last M)
+  enclosed : (M B : ℕ) → M < size t → kindAt t M ≡ 4 → (B ≡ size t) ⊎ ((B < size t) × (kindAt t B ≡ 4)) → Encloses t M B → (tb .first M ≤ tb .first B) × (tb .last B ≤ tb .last M)
   enclosed M B l k c (same e) = let a : tb .first M ≡ tb .first B = ap (tb .first) e in let b : tb .last M ≡ tb .last B = ap (tb .last) e in (omega arith, omega arith)
   enclosed M B l k c (outermost e) = absurd (omega arith)
   enclosed M B l k (inl e) (inside kM lo hi) = let s = S .loop-span M l k .inside in absurd (omega arith)
@@ -99,14 +99,14 @@ module _ (t : List ℕ) (S : Structure t) where
       let fM = first-is M k in let fB = first-is B (c .1) in let lM = last-is M k in let lB = last-is B (c .1) in
       (omega arith, omega arith)
 
-  pub inner-at : (r : ℕ) → r < size t → kindOf t r ≢ 5 → Inner tb (bodyOf t r) r
+  pub inner-at : (r : ℕ) → r < size t → kindAt t r ≢ 5 → Inner tb (bodyOf t r) r
   inner-at r l n = record { low = low′ (body-cases r (omega arith)); high = high′ (body-cases r (omega arith)); within = within′ }
     where
-      low′ : (bodyOf t r ≡ size t) ⊎ ((bodyOf t r < size t) × (kindOf t (bodyOf t r) ≡ 4)) → tb .first (bodyOf t r) ≤ r
+      low′ : (bodyOf t r ≡ size t) ⊎ ((bodyOf t r < size t) × (kindAt t (bodyOf t r) ≡ 4)) → tb .first (bodyOf t r) ≤ r
       low′ (inl e) = let q : tb .first (bodyOf t r) ≡ 0 = ap (tb .first) e ∙ Tables.outer-first t in omega arith
       low′ (inr c) = let q = first-is (bodyOf t r) (c .1) in let c0 : bodyOf t r < size t = c .0 in let k = S .body-first r l n (omega arith) in omega arith
 
-      high′ : (bodyOf t r ≡ size t) ⊎ ((bodyOf t r < size t) × (kindOf t (bodyOf t r) ≡ 4)) → r ≤ tb .last (bodyOf t r)
+      high′ : (bodyOf t r ≡ size t) ⊎ ((bodyOf t r < size t) × (kindAt t (bodyOf t r) ≡ 4)) → r ≤ tb .last (bodyOf t r)
       high′ (inl e) = let q : tb .last (bodyOf t r) ≡ suc (size t) = ap (tb .last) e ∙ Tables.outer-last t in omega arith
       high′ (inr c) = let q = last-is (bodyOf t r) (c .1) in let c0 : bodyOf t r < size t = c .0 in let k = S .body-loop r (omega arith) (omega arith) .high in omega arith
 
@@ -119,7 +119,7 @@ module _ (t : List ℕ) (S : Structure t) where
 
   -- ---- body B is loop L, or lies in it
 
-  pub inside-means : (L B : ℕ) → L < size t → kindOf t L ≡ 4 → Sources.inside t L B ≡ true → (B ≡ L) ⊎ ((L < B) × (B ≤ endOf t L))
+  pub inside-means : (L B : ℕ) → L < size t → kindAt t L ≡ 4 → Sources.inside t L B ≡ true → (B ≡ L) ⊎ ((L < B) × (B ≤ endOf t L))
   unfolding Sources.inside
   inside-means L B l k h =
       elim (either (eqb B L) (holds L (stackAt t B)) h) [
@@ -127,13 +127,13 @@ module _ (t : List ℕ) (S : Structure t) where
         | inr o ↦ inr (S .loop-span L l k .open-only B o)
       ]
 
-  pub means-inside : (L B : ℕ) → L < size t → kindOf t L ≡ 4 → (B ≡ L) ⊎ ((L < B) × (B ≤ endOf t L)) → Sources.inside t L B ≡ true
+  pub means-inside : (L B : ℕ) → L < size t → kindAt t L ≡ 4 → (B ≡ L) ⊎ ((L < B) × (B ≤ endOf t L)) → Sources.inside t L B ≡ true
   unfolding Sources.inside
   means-inside L B l k (inl e) = or-left (eqb B L) (holds L (stackAt t B)) (eq-eqb B L e)
   means-inside L B l k (inr c) = or-right (eqb B L) (holds L (stackAt t B)) (S .loop-span L l k .open-in B (c .0) (c .1))
 
   -- a body that starts before loop B, or the outermost one, is not inside B
-  pub outside-of : (B H : ℕ) → kindOf t B ≡ 4 → B < size t → (H < B) ⊎ (H ≡ size t) → Sources.inside t B H ≡ false
+  pub outside-of : (B H : ℕ) → kindAt t B ≡ 4 → B < size t → (H < B) ⊎ (H ≡ size t) → Sources.inside t B H ≡ false
   outside-of B H k lB d = not-true (Sources.inside t B H) (λ h. no-way (inside-means B H lB k h) d)
     where
       no-way : (H ≡ B) ⊎ ((B < H) × (H ≤ endOf t B)) → (H < B) ⊎ (H ≡ size t) → ⊥
@@ -143,19 +143,19 @@ module _ (t : List ℕ) (S : Structure t) where
       no-way (inr m) (inr l) = let m1 = m .1 in let s = S .loop-span B lB k .inside in omega arith
 
   -- the body that encloses a row's is inside
-  encloses-inside : (L B : ℕ) → L < size t → kindOf t L ≡ 4 → Encloses t L B → Sources.inside t L B ≡ true
+  encloses-inside : (L B : ℕ) → L < size t → kindAt t L ≡ 4 → Encloses t L B → Sources.inside t L B ≡ true
   encloses-inside L B l k (same e) = means-inside L B l k (inl (sym e))
   encloses-inside L B l k (inside kL lo hi) = means-inside L B l k (inr (lo, hi))
   encloses-inside L B l k (outermost e) = absurd (omega arith)
 
   -- a row in L has its body in L
-  body-inside : (L r : ℕ) → L < size t → kindOf t L ≡ 4 → r ≤ size t → L < r → r ≤ endOf t L → Sources.inside t L (bodyOf t r) ≡ true
+  body-inside : (L r : ℕ) → L < size t → kindAt t L ≡ 4 → r ≤ size t → L < r → r ≤ endOf t L → Sources.inside t L (bodyOf t r) ≡ true
   body-inside L r l k lr lo hi = encloses-inside L (bodyOf t r) l k (S .body-inmost r L lr l (record { is-for = k; low = lo; high = hi }))
 
   -- where the operands of a row are read: its body, or the body around its loop
-  reads-low : (L r : ℕ) → L < size t → kindOf t L ≡ 4 → r < size t → Sources.inside t L (reads t r) ≡ true → (L < r) × (r ≤ endOf t L)
+  reads-low : (L r : ℕ) → L < size t → kindAt t L ≡ 4 → r < size t → Sources.inside t L (reads t r) ≡ true → (L < r) × (r ≤ endOf t L)
   reads-low L r l k lr h =
-      elim (ℕ-discrete (kindOf t r) 5) [
+      elim (ℕ-discrete (kindAt t r) 5) [
         | yes a ↦
             let A = S .arg-row r lr a in
             let M = bodyOf t r in
@@ -189,22 +189,22 @@ module _ (t : List ℕ) (S : Structure t) where
 
   -- ---- operands
 
-  name-of : (r v : ℕ) → names t r v ≡ true → (j : ℕ) × (j < operandCount (kindOf t r)) × (operand t r j ≡ v)
+  name-of : (r v : ℕ) → names t r v ≡ true → (j : ℕ) × (j < operandCount (kindAt t r)) × (operand t r j ≡ v)
   unfolding names
-  name-of r v h = let x = some-from (λ j. eqb (operand t r j) v) (operandCount (kindOf t r)) h in (x .0, x .1, eqb-true (operand t r (x .0)) v (x .2))
+  name-of r v h = let x = some-from (λ j. eqb (operand t r j) v) (operandCount (kindAt t r)) h in (x .0, x .1, eqb-true (operand t r (x .0)) v (x .2))
 
-  of-name : (r j : ℕ) → j < operandCount (kindOf t r) → names t r (operand t r j) ≡ true
+  of-name : (r j : ℕ) → j < operandCount (kindAt t r) → names t r (operand t r j) ≡ true
   unfolding names
-  of-name r j l = some-has (λ i. eqb (operand t r i) (operand t r j)) (operandCount (kindOf t r)) j l (eq-eqb (operand t r j) (operand t r j) refl)
+  of-name r j l = some-has (λ i. eqb (operand t r i) (operand t r j)) (operandCount (kindAt t r)) j l (eq-eqb (operand t r j) (operand t r j) refl)
 
   -- v is carried into L because operand j of row r in L names it
   pub record CarriedBy (L v : ℕ) : Type 0 where
-    pub is-loop : kindOf t L ≡ 4
+    pub is-loop : kindAt t L ≡ 4
     pub below : L < size t
     pub row : ℕ
     pub row-below : row < size t
     pub place : ℕ
-    pub place-below : place < operandCount (kindOf t row)
+    pub place-below : place < operandCount (kindAt t row)
     pub is-operand : operand t row place ≡ v
     pub read-inside : Sources.inside t L (reads t row) ≡ true
     pub in-loop : (L < row) × (row ≤ endOf t L)
@@ -214,7 +214,7 @@ module _ (t : List ℕ) (S : Structure t) where
   unfolding carried
   carried-by L v h =
       let a = both (isFor t L) (carried t L v) h in
-      let k : kindOf t L ≡ 4 = eqb-true (kindOf t L) 4 (a .0) in
+      let k : kindAt t L ≡ 4 = eqb-true (kindAt t L) 4 (a .0) in
       let l = Tables.below-by-kind t S L 3 k in
       let b = both (not (Sources.inside t L (home t v))) (some? (λ r. Sources.inside t L (reads t r) && names t r v) (size t)) (a .1) in
       let f = some-from (λ r. Sources.inside t L (reads t r) && names t r v) (size t) (b .1) in
@@ -233,26 +233,26 @@ module _ (t : List ℕ) (S : Structure t) where
         outside = false-not (Sources.inside t L (home t v)) (b .0);
       }
 
-  pub by-carried : (L v r j : ℕ) → kindOf t L ≡ 4 → r < size t → j < operandCount (kindOf t r) → operand t r j ≡ v → Sources.inside t L (reads t r) ≡ true
+  pub by-carried : (L v r j : ℕ) → kindAt t L ≡ 4 → r < size t → j < operandCount (kindAt t r) → operand t r j ≡ v → Sources.inside t L (reads t r) ≡ true
       → Sources.inside t L (home t v) ≡ false → tb .carried L v ≡ true
   unfolding carried
   by-carried L v r j k l lj e i o =
-      rw (eq-eqb (kindOf t L) 4 k, o, some-has (λ r. Sources.inside t L (reads t r) && names t r v) (size t) r l (rw (i, subst (λ (z : ℕ). names t r z ≡ true) e (of-name r j lj))))
+      rw (eq-eqb (kindAt t L) 4 k, o, some-has (λ r. Sources.inside t L (reads t r) && names t r v) (size t) r l (rw (i, subst (λ (z : ℕ). names t r z ≡ true) e (of-name r j lj))))
 
   -- ---- what is carried in was there before
   module _ (L v : ℕ) (c : CarriedBy L v) where
-    value : kindOf t v ≤ 6
-    value = subst (λ (z : ℕ). kindOf t z ≤ 6) (c .is-operand) (S .operands (c .row) (c .place) (c .row-below) (c .place-below) .is-value)
+    value : kindAt t v ≤ 6
+    value = subst (λ (z : ℕ). kindAt t z ≤ 6) (c .is-operand) (S .operands (c .row) (c .place) (c .row-below) (c .place-below) .is-value)
 
     before-row : v < c .row
     before-row = subst (λ (z : ℕ). z < c .row) (c .is-operand) (S .operands (c .row) (c .place) (c .row-below) (c .place-below) .before)
 
-    passed : kindOf t v ≡ 6 → endOf t (bodyOf t v) < c .row
-    passed = subst (λ (z : ℕ). kindOf t z ≡ 6 → endOf t (bodyOf t z) < c .row) (c .is-operand) (S .operands (c .row) (c .place) (c .row-below) (c .place-below) .passed)
+    passed : kindAt t v ≡ 6 → endOf t (bodyOf t v) < c .row
+    passed = subst (λ (z : ℕ). kindAt t z ≡ 6 → endOf t (bodyOf t z) < c .row) (c .is-operand) (S .operands (c .row) (c .place) (c .row-below) (c .place-below) .passed)
 
     -- a value born in L is at home in L, or is a NEXT of L, which L's rows do not see
     not-in : L < v → ⊥
-    not-in lo = go (kindOf t v) refl value
+    not-in lo = go (kindAt t v) refl value
       where
         b0 : L < c .row
         b0 = c .in-loop .0
@@ -272,7 +272,7 @@ module _ (t : List ℕ) (S : Structure t) where
         in-body : home t v ≡ bodyOf t v → ⊥
         in-body e = at-home (subst (λ (z : ℕ). Sources.inside t L z ≡ true) (sym e) (body-inside L v (c .below) (c .is-loop) (let a = lv in omega arith) lo hi))
 
-        of-next : kindOf t v ≡ 6 → ⊥
+        of-next : kindAt t v ≡ 6 → ⊥
         of-next k =
             elim (inside-means L (bodyOf t v) (c .below) (c .is-loop) (body-inside L v (c .below) (c .is-loop) (let a = lv in omega arith) lo hi)) [
               | inl e ↦ let p = passed k in let q : endOf t (bodyOf t v) ≡ endOf t L = ap (endOf t) e in let b = b1 in omega arith
@@ -284,7 +284,7 @@ module _ (t : List ℕ) (S : Structure t) where
                   at-home (subst (λ (z : ℕ). Sources.inside t L z ≡ true) (sym (S .next-home v lv k)) (body-inside L (bodyOf t v) (c .below) (c .is-loop) (omega arith) m0 m1))
             ]
 
-        go : (k : ℕ) → kindOf t v ≡ k → k ≤ 6 → ⊥
+        go : (k : ℕ) → kindAt t v ≡ k → k ≤ 6 → ⊥
         go zero e l = let z = S .starts L v lo lv (omega arith) in let y = c .is-loop in omega arith
         go (suc zero) e l = let z = S .starts L v lo lv (omega arith) in let y = c .is-loop in omega arith
         go (suc (suc zero)) e l = in-body (S .op-home v (inl e))
@@ -298,7 +298,7 @@ module _ (t : List ℕ) (S : Structure t) where
     pub carried-before : v < L
     carried-before =
         elim (ℕ-discrete v L) [
-          | yes e ↦ absurd (clash (means-inside L (home t v) (c .below) (c .is-loop) (inl (S .for-home v (ap (kindOf t) e ∙ c .is-loop) ∙ e))) (c .outside))
+          | yes e ↦ absurd (clash (means-inside L (home t v) (c .below) (c .is-loop) (inl (S .for-home v (ap (kindAt t) e ∙ c .is-loop) ∙ e))) (c .outside))
           | no n ↦ elim (decLt L v) [ yes l ↦ absurd (not-in l) | no l ↦ omega arith ]
         ]
 
@@ -306,7 +306,7 @@ module _ (t : List ℕ) (S : Structure t) where
     carried-home e = clash (means-inside L (home t v) (c .below) (c .is-loop) (inl e)) (c .outside)
 
     -- of a NEXT the END has passed before L opens
-    pub carried-passed : kindOf t v ≡ 6 → endOf t (bodyOf t v) < L
+    pub carried-passed : kindAt t v ≡ 6 → endOf t (bodyOf t v) < L
     carried-passed k =
         let lv : v < L = carried-before in
         let lL = c .below in
@@ -351,7 +351,7 @@ module _ (t : List ℕ) (S : Structure t) where
         lL : L < size t
         lL = c .below
 
-        within : (B : ℕ) → kindOf t B ≡ 4 → B < size t → bodyOf t L ≡ B → Sources.inside t B (reads t (c .row)) ≡ true
+        within : (B : ℕ) → kindAt t B ≡ 4 → B < size t → bodyOf t L ≡ B → Sources.inside t B (reads t (c .row)) ≡ true
         within B k lB e =
             let i = S .body-loop L (let l = lL in omega arith) (λ z. let q : B ≡ size t = sym e ∙ z in omega arith) in
             let lo : B < L = subst (λ (z : ℕ). z < L) e (i .low) in
@@ -362,11 +362,11 @@ module _ (t : List ℕ) (S : Structure t) where
               | inr m ↦ let m0 : L < reads t (c .row) = m .0 in let m1 : reads t (c .row) ≤ endOf t L = m .1 in inr (omega arith, omega arith)
             ])
 
-        make : (kindOf t (bodyOf t L) ≡ 4) → bodyOf t L < size t → ((home t v < bodyOf t L) ⊎ (home t v ≡ size t)) → tb .carried (bodyOf t L) v ≡ true
+        make : (kindAt t (bodyOf t L) ≡ 4) → bodyOf t L < size t → ((home t v < bodyOf t L) ⊎ (home t v ≡ size t)) → tb .carried (bodyOf t L) v ≡ true
         make k lB d =
             by-carried (bodyOf t L) v (c .row) (c .place) k (c .row-below) (c .place-below) (c .is-operand) (within (bodyOf t L) k lB refl) (outside-of (bodyOf t L) (home t v) k lB d)
 
-        go : Encloses t (home t v) (bodyOf t L) → (bodyOf t L ≡ size t) ⊎ ((bodyOf t L < size t) × (kindOf t (bodyOf t L) ≡ 4)) → tb .carried (bodyOf t L) v ≡ true
+        go : Encloses t (home t v) (bodyOf t L) → (bodyOf t L ≡ size t) ⊎ ((bodyOf t L < size t) × (kindAt t (bodyOf t L) ≡ 4)) → tb .carried (bodyOf t L) v ≡ true
         go (same e) k = absurd (n e)
         go (inside kH lo hi) (inl e) = let lH = Tables.below-by-kind t S (home t v) 3 kH in let s = S .loop-span (home t v) lH kH .inside in absurd (omega arith)
         go (inside kH lo hi) (inr k) = make (k .1) (k .0) (inl lo)

@@ -27,7 +27,7 @@ use Rattle.state.specs.Net.{netOf, fire}
 use Rattle.state.specs.Run.{isFull, isResult, resultsFull, othersEmpty, phasesZero, complete, COMPLETE, outcome}
 use Rattle.confluence.specs.Orders.{Rests}
 use Rattle.confluence.specs.Graphs.{none-ready-if-rests}
-use Rattle.table.specs.Rows.{kindOf, word, size, OUT}
+use Rattle.table.specs.Rows.{kindAt, word, size, OUT}
 use Rattle.table.specs.Bodies.{out}
 use Rattle.structure.specs.Structure.{Structure}
 use Rattle.reading.specs.Reading.{Env, resultsFrom}
@@ -68,7 +68,7 @@ outs-joined t (suc m) r =
 results-along : (t : List ℕ) (env : Env) (m r k q : ℕ) → getElem? (outsFrom t m r) k ≡ some q → getElem? (resultsFrom m t env r) k ≡ some (env (word t q 1))
 unfolding outsFrom resultsFrom
 results-along t env zero r k q h = none-some q h
-results-along t env (suc m) r k q h = go (eqb (kindOf t r) OUT) k h (λ j. results-along t env m (suc r) j q)
+results-along t env (suc m) r k q h = go (eqb (kindAt t r) OUT) k h (λ j. results-along t env m (suc r) j q)
   where
     go : (b : Bool) (k : ℕ) → getElem? (cond b (r ∷ outsFrom t m (suc r)) (outsFrom t m (suc r))) k ≡ some q
         → ((j : ℕ) → getElem? (outsFrom t m (suc r)) j ≡ some q → getElem? (resultsFrom m t env (suc r)) j ≡ some (env (word t q 1)))
@@ -80,7 +80,7 @@ results-along t env (suc m) r k q h = go (eqb (kindOf t r) OUT) k h (λ j. resul
 results-long : (t : List ℕ) (env : Env) (m r : ℕ) → length (resultsFrom m t env r) ≡ length (outsFrom t m r)
 unfolding outsFrom resultsFrom
 results-long t env zero r = refl
-results-long t env (suc m) r = go (eqb (kindOf t r) OUT) (results-long t env m (suc r))
+results-long t env (suc m) r = go (eqb (kindAt t r) OUT) (results-long t env m (suc r))
   where
     go : (b : Bool) → length (resultsFrom m t env (suc r)) ≡ length (outsFrom t m (suc r))
         → length (cond b (env (word t r 1) ∷ resultsFrom m t env (suc r)) (resultsFrom m t env (suc r))) ≡ length (cond b (r ∷ outsFrom t m (suc r)) (outsFrom t m (suc r)))
@@ -142,7 +142,7 @@ module _ (t : List ℕ) (S : Structure t) (ok : graphRefusal (loweredWords t) �
       let c = result-count t in
       let e = has-elem (those (isOut t) (size t)) k (omega arith) in
       let m = those-from (isOut t) (size t) (e .0) (there (those (isOut t) (size t)) k (e .0) (e .1)) in
-      (e .0, e .1, row-at t (e .0) (m .0) ∙ is-out t (e .0) (eqb-true (kindOf t (e .0)) 8 (m .1)))
+      (e .0, e .1, row-at t (e .0) (m .0) ∙ is-out t (e .0) (eqb-true (kindAt t (e .0)) 8 (m .1)))
 
   -- an OUT row is the row of a result wire
   row-result : (q x : ℕ) → tb .row q ≡ out x → (k : ℕ) × (k < resultCount g) × (resultAt g k ≡ standsOn t (result q)) × (word t q 1 ≡ x)
@@ -150,7 +150,7 @@ module _ (t : List ℕ) (S : Structure t) (ok : graphRefusal (loweredWords t) �
   row-result q x h =
       let w = out-words t S q x h in
       let c = result-count t in
-      let a = those-has (isOut t) (size t) q (w .0) (eq-eqb (kindOf t q) 8 (w .1)) in
+      let a = those-has (isOut t) (size t) q (w .0) (eq-eqb (kindAt t q) 8 (w .1)) in
       let p = at-position ℕ-discrete q (those (isOut t) (size t)) a in
       let b = in-range (those (isOut t) (size t)) (position ℕ-discrete q (those (isOut t) (size t))) q p in
       (position ℕ-discrete q (those (isOut t) (size t)), omega arith, result-at t (position ℕ-discrete q (those (isOut t) (size t))) q p, w .3)

@@ -20,7 +20,7 @@ use lib.Dec.{eqb}
 use lib.ListN.{length, length-append}
 use Rattle.word.specs.Words.{condition, update, operate}
 use Rattle.step.specs.Kinds.{out1}
-use Rattle.table.specs.Rows.{kindOf, word, size}
+use Rattle.table.specs.Rows.{kindAt, word, size}
 use Rattle.table.specs.Scan.{bodyOf}
 use Rattle.table.specs.Bodies.{Row, input, const, op, pick, for, arg, next, end, out, unknown, rowAt, endOf, firstOf, argOf, nextOf}
 use Rattle.table.specs.Bodies
@@ -67,10 +67,10 @@ module _ (t : List ℕ) (S : Structure t) where
 
   -- ---- the words of the rows, set as the reading sets them
 
-  kind-next : (v : ℕ) → eqb (kindOf t v) 6 ≡ isNext (tb .row v)
+  kind-next : (v : ℕ) → eqb (kindAt t v) 6 ≡ isNext (tb .row v)
   kind-next v = elim (decLt v (size t)) [ yes l ↦ go (tb .row v) (Tables.row-kind t S v l) | no n ↦ rw (Tables.kind-past t S v (omega arith), Tables.row-past t v (omega arith)) ]
     where
-      go : (d : Row) → Tables.rowKind d ≡ kindOf t v → eqb (kindOf t v) 6 ≡ isNext d
+      go : (d : Row) → Tables.rowKind d ≡ kindAt t v → eqb (kindAt t v) 6 ≡ isNext d
       go input e = rw (sym e)
       go (const w) e = rw (sym e)
       go (op c x y) e = rw (sym e)
@@ -84,11 +84,11 @@ module _ (t : List ℕ) (S : Structure t) where
 
   arg-test : (L v : ℕ) → Bodies.isArg t L v ≡ (eqb (bodyOf t v) L && isArg (tb .row v))
   unfolding Bodies.isArg
-  arg-test L v = and-flip (eqb (kindOf t v) 5) (eqb (bodyOf t v) L) ∙ ap (λ (b : Bool). eqb (bodyOf t v) L && b) (Tables.kind-arg t S v)
+  arg-test L v = and-flip (eqb (kindAt t v) 5) (eqb (bodyOf t v) L) ∙ ap (λ (b : Bool). eqb (bodyOf t v) L && b) (Tables.kind-arg t S v)
 
   next-test : (L v : ℕ) → Bodies.isNext t L v ≡ (eqb (bodyOf t v) L && isNext (tb .row v))
   unfolding Bodies.isNext
-  next-test L v = and-flip (eqb (kindOf t v) 6) (eqb (bodyOf t v) L) ∙ ap (λ (b : Bool). eqb (bodyOf t v) L && b) (kind-next v)
+  next-test L v = and-flip (eqb (kindAt t v) 6) (eqb (bodyOf t v) L) ∙ ap (λ (b : Bool). eqb (bodyOf t v) L && b) (kind-next v)
 
   by-test : (b : Bool) (x y z : ℕ) → (b ≡ true → x ≡ y) → cond b x z ≡ setBy b y z
   by-test true x y z h = h refl
@@ -98,32 +98,32 @@ module _ (t : List ℕ) (S : Structure t) where
   unfolding setTo
   set-is r w env = λ i. λ v. set-as-cond (eqb v r) w (env v) i
 
-  turn-is : (L x : ℕ) (args h env : Env) → ((v : ℕ) → kindOf t v ≡ 5 → args v ≡ h v) → turn t L x args env ≡ turnEnv tb L x h env
+  turn-is : (L x : ℕ) (args h env : Env) → ((v : ℕ) → kindAt t v ≡ 5 → args v ≡ h v) → turn t L x args env ≡ turnEnv tb L x h env
   unfolding turn setTo argsTo Bodies.isArg
   turn-is L x args h env e = λ i. λ v. (by-test (eqb v L) x x (cond (Bodies.isArg t L v) (args v) (env v)) (λ _. refl) ∙ ap (setBy (eqb v L) x) (arg v)) i
     where
       arg : (v : ℕ) → cond (Bodies.isArg t L v) (args v) (env v) ≡ setBy (eqb (bodyOf t v) L && isArg (tb .row v)) (h v) (env v)
       arg v =
-          by-test (Bodies.isArg t L v) (args v) (h v) (env v) (λ k. e v (eqb-true (kindOf t v) 5 (and-left (eqb (kindOf t v) 5) (eqb (bodyOf t v) L) k)))
+          by-test (Bodies.isArg t L v) (args v) (h v) (env v) (λ k. e v (eqb-true (kindAt t v) 5 (and-left (eqb (kindAt t v) 5) (eqb (bodyOf t v) L) k)))
           ∙ ap (λ (b : Bool). setBy b (h v) (env v)) (arg-test L v)
 
-  leave-is : (L : ℕ) (exits h env : Env) → ((v : ℕ) → kindOf t v ≡ 6 → exits v ≡ h v) → leave t L exits env ≡ nextsTo tb L h env
+  leave-is : (L : ℕ) (exits h env : Env) → ((v : ℕ) → kindAt t v ≡ 6 → exits v ≡ h v) → leave t L exits env ≡ nextsTo tb L h env
   unfolding leave nextsTo Bodies.isNext
   leave-is L exits h env e =
-      λ i. λ v. (by-test (Bodies.isNext t L v) (exits v) (h v) (env v) (λ k. e v (eqb-true (kindOf t v) 6 (and-left (eqb (kindOf t v) 6) (eqb (bodyOf t v) L) k)))
+      λ i. λ v. (by-test (Bodies.isNext t L v) (exits v) (h v) (env v) (λ k. e v (eqb-true (kindAt t v) 6 (and-left (eqb (kindAt t v) 6) (eqb (bodyOf t v) L) k)))
       ∙ ap (λ (b : Bool). setBy b (h v) (env v)) (next-test L v)) i
 
   -- what an ARG's row names, and a NEXT's
-  arg-named : (a : ℕ) → kindOf t a ≡ 5 → word t a 1 ≡ Table.named (tb .row a)
+  arg-named : (a : ℕ) → kindAt t a ≡ 5 → word t a 1 ≡ Table.named (tb .row a)
   arg-named a k = sym (ap Table.named (Tables.row-at t a (Tables.below-by-kind t S a 4 k) ∙ Tables.is-arg t a k))
 
-  next-named : (x : ℕ) → kindOf t x ≡ 6 → word t x 1 ≡ Table.named (tb .row x)
+  next-named : (x : ℕ) → kindAt t x ≡ 6 → word t x 1 ≡ Table.named (tb .row x)
   next-named x k = sym (ap Table.named (Tables.row-at t x (Tables.below-by-kind t S x 5 k) ∙ Tables.is-next t x k))
 
-  next-of-arg : (a : ℕ) → kindOf t a ≡ 5 → kindOf t (nextOf t a) ≡ 6
+  next-of-arg : (a : ℕ) → kindAt t a ≡ 5 → kindAt t (nextOf t a) ≡ 6
   next-of-arg a k = S .arg-row a (Tables.below-by-kind t S a 4 k) k .next-kind
 
-  arg-of-next : (x : ℕ) → kindOf t x ≡ 6 → (kindOf t (argOf t x) ≡ 5) × (nextOf t (argOf t x) ≡ x)
+  arg-of-next : (x : ℕ) → kindAt t x ≡ 6 → (kindAt t (argOf t x) ≡ 5) × (nextOf t (argOf t x) ≡ x)
   arg-of-next x k = let N = S .next-row x (Tables.below-by-kind t S x 5 k) k in (N .arg-kind, N .arg-next)
 
   -- ---- no step leads to an ARG

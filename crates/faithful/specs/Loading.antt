@@ -22,7 +22,7 @@ use Rattle.state.specs.Net.{netOf}
 use Rattle.state.specs.Legal.{stateLength}
 use Rattle.state.specs.Load.{startWord, loaded}
 use Rattle.state.specs.Loaded.{loadedAt, loaded-length, loaded-at}
-use Rattle.table.specs.Rows.{kindOf, word, size, INPUT, CONST}
+use Rattle.table.specs.Rows.{kindAt, word, size, INPUT, CONST}
 use Rattle.structure.specs.Structure.{Structure}
 use Rattle.reading.specs.Reading.{inputsBelow, firstWords}
 use Rattle.lowered.specs.Gathered.{those, each, position}
@@ -47,14 +47,14 @@ starts-at (x ∷ xs) zero v h = let e : x ≡ v = cc in ap (λ (z : ℕ). some (
 starts-at (x ∷ xs) (suc k) v h = starts-at xs k v h
 
 -- how many INPUTs stand before a row
-inputs-counted : (t : List ℕ) (r : ℕ) → length (those (λ q. eqb (kindOf t q) INPUT) r) ≡ inputsBelow t r
+inputs-counted : (t : List ℕ) (r : ℕ) → length (those (λ q. eqb (kindAt t q) INPUT) r) ≡ inputsBelow t r
 unfolding those inputsBelow
 inputs-counted t zero = refl
 inputs-counted t (suc r) =
-    length-append (those (λ q. eqb (kindOf t q) INPUT) r) (cond (eqb (kindOf t r) INPUT) (r ∷ []) []) ∙ go (eqb (kindOf t r) INPUT) (inputs-counted t r)
+    length-append (those (λ q. eqb (kindAt t q) INPUT) r) (cond (eqb (kindAt t r) INPUT) (r ∷ []) []) ∙ go (eqb (kindAt t r) INPUT) (inputs-counted t r)
   where
-    go : (b : Bool) → length (those (λ q. eqb (kindOf t q) INPUT) r) ≡ inputsBelow t r
-        → length (those (λ q. eqb (kindOf t q) INPUT) r) + length (cond b (r ∷ []) []) ≡ cond b (suc (inputsBelow t r)) (inputsBelow t r)
+    go : (b : Bool) → length (those (λ q. eqb (kindAt t q) INPUT) r) ≡ inputsBelow t r
+        → length (those (λ q. eqb (kindAt t q) INPUT) r) + length (cond b (r ∷ []) []) ≡ cond b (suc (inputsBelow t r)) (inputsBelow t r)
     go true e = omega arith
     go false e = omega arith
 
@@ -87,26 +87,26 @@ module _ (t : List ℕ) (S : Structure t) (inputs : List ℕ) where
       (ap (getElem? (those (isStart t) (size t))) e ∙ p, (let b = in-range (those (isStart t) (size t)) (position ℕ-discrete v (those (isStart t) (size t))) v p in omega arith))
 
   -- the loaded word is the reading's first word
-  start-word-is : (k v : ℕ) → getElem? (startRows t) k ≡ some v → kindOf t v ≤ 1 → startWord g inputs k ≡ firstWords t inputs v
+  start-word-is : (k v : ℕ) → getElem? (startRows t) k ≡ some v → kindAt t v ≤ 1 → startWord g inputs k ≡ firstWords t inputs v
   unfolding startWord firstWords
   start-word-is k v h l =
-      ap₂ (λ (a b : ℕ). Words.pick (eqb a 0) (getD inputs b 0) b) (start-kind-at t k v h) (start-word-at t k v h) ∙ go (ℕ-discrete (kindOf t v) 0)
+      ap₂ (λ (a b : ℕ). Words.pick (eqb a 0) (getD inputs b 0) b) (start-kind-at t k v h) (start-word-at t k v h) ∙ go (ℕ-discrete (kindAt t v) 0)
     where
-      go : Dec (kindOf t v ≡ 0) → Words.pick (eqb (getD (startWords t v) 0 0) 0) (getD inputs (getD (startWords t v) 1 0) 0) (getD (startWords t v) 1 0)
-          ≡ cond (eqb (kindOf t v) INPUT) (getD inputs (inputsBelow t v) 0) (cond (eqb (kindOf t v) CONST) (word t v 1) 0)
+      go : Dec (kindAt t v ≡ 0) → Words.pick (eqb (getD (startWords t v) 0 0) 0) (getD inputs (getD (startWords t v) 1 0) 0) (getD (startWords t v) 1 0)
+          ≡ cond (eqb (kindAt t v) INPUT) (getD inputs (inputsBelow t v) 0) (cond (eqb (kindAt t v) CONST) (word t v 1) 0)
       go (yes e) =
-          let b : eqb (kindOf t v) 0 ≡ true = eq-eqb (kindOf t v) 0 e in
-          ap (λ (c : Bool). Words.pick (eqb (getD (cond c (0 ∷ length (those (λ q. eqb (kindOf t q) INPUT) v) ∷ []) (1 ∷ word t v 1 ∷ [])) 0 0) 0)
-          (getD inputs (getD (cond c (0 ∷ length (those (λ q. eqb (kindOf t q) INPUT) v) ∷ []) (1 ∷ word t v 1 ∷ [])) 1 0) 0)
-          (getD (cond c (0 ∷ length (those (λ q. eqb (kindOf t q) INPUT) v) ∷ []) (1 ∷ word t v 1 ∷ [])) 1 0)) b
+          let b : eqb (kindAt t v) 0 ≡ true = eq-eqb (kindAt t v) 0 e in
+          ap (λ (c : Bool). Words.pick (eqb (getD (cond c (0 ∷ length (those (λ q. eqb (kindAt t q) INPUT) v) ∷ []) (1 ∷ word t v 1 ∷ [])) 0 0) 0)
+          (getD inputs (getD (cond c (0 ∷ length (those (λ q. eqb (kindAt t q) INPUT) v) ∷ []) (1 ∷ word t v 1 ∷ [])) 1 0) 0)
+          (getD (cond c (0 ∷ length (those (λ q. eqb (kindAt t q) INPUT) v) ∷ []) (1 ∷ word t v 1 ∷ [])) 1 0)) b
           ∙ ap (λ (z : ℕ). getD inputs z 0) (inputs-counted t v)
-          ∙ sym (ap (λ (c : Bool). cond c (getD inputs (inputsBelow t v) 0) (cond (eqb (kindOf t v) CONST) (word t v 1) 0)) b)
+          ∙ sym (ap (λ (c : Bool). cond c (getD inputs (inputsBelow t v) 0) (cond (eqb (kindAt t v) CONST) (word t v 1) 0)) b)
       go (no n) =
-          let b : eqb (kindOf t v) 0 ≡ false = ne-eqb (kindOf t v) 0 n in
-          let d : eqb (kindOf t v) 1 ≡ true = eq-eqb (kindOf t v) 1 (omega arith) in
-          ap (λ (c : Bool). Words.pick (eqb (getD (cond c (0 ∷ length (those (λ q. eqb (kindOf t q) INPUT) v) ∷ []) (1 ∷ word t v 1 ∷ [])) 0 0) 0)
-          (getD inputs (getD (cond c (0 ∷ length (those (λ q. eqb (kindOf t q) INPUT) v) ∷ []) (1 ∷ word t v 1 ∷ [])) 1 0) 0)
-          (getD (cond c (0 ∷ length (those (λ q. eqb (kindOf t q) INPUT) v) ∷ []) (1 ∷ word t v 1 ∷ [])) 1 0)) b
+          let b : eqb (kindAt t v) 0 ≡ false = ne-eqb (kindAt t v) 0 n in
+          let d : eqb (kindAt t v) 1 ≡ true = eq-eqb (kindAt t v) 1 (omega arith) in
+          ap (λ (c : Bool). Words.pick (eqb (getD (cond c (0 ∷ length (those (λ q. eqb (kindAt t q) INPUT) v) ∷ []) (1 ∷ word t v 1 ∷ [])) 0 0) 0)
+          (getD inputs (getD (cond c (0 ∷ length (those (λ q. eqb (kindAt t q) INPUT) v) ∷ []) (1 ∷ word t v 1 ∷ [])) 1 0) 0)
+          (getD (cond c (0 ∷ length (those (λ q. eqb (kindAt t q) INPUT) v) ∷ []) (1 ∷ word t v 1 ∷ [])) 1 0)) b
           ∙ sym (ap₂ (λ (c e : Bool). cond c (getD inputs (inputsBelow t v) 0) (cond e (word t v 1) 0)) b d)
 
   -- the token on each wire
@@ -156,8 +156,8 @@ module _ (t : List ℕ) (S : Structure t) (inputs : List ℕ) where
       let s = starts-first in
       place j b ∙ ap (λ (c : Bool). Words.pick c (Words.pick (eqb (j % 2) 0) 1 (startWord g inputs (j / 2))) 0) (le-ltb j (2 * startCount g) (omega arith))
 
-  start-kind : (v : ℕ) → Made (plan tb) (start v) → kindOf t v ≤ 1
-  start-kind v m = leb-true (kindOf t v) 1 (to-made t S (start v) m .1)
+  start-kind : (v : ℕ) → Made (plan tb) (start v) → kindAt t v ≤ 1
+  start-kind v m = leb-true (kindAt t v) 1 (to-made t S (start v) m .1)
 
   row-made : (x v : ℕ) → getElem? (startRows t) x ≡ some v → Made (plan tb) (start v)
   unfolding startRows

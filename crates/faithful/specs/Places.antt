@@ -26,7 +26,7 @@ use Rattle.graph.specs.Refusal.{graphRefusal}
 use Rattle.graph.specs.Accepted.{node-in-range}
 use Rattle.state.specs.Net.{stepAt, netOf}
 use Rattle.confluence.specs.Graphs.{accepted-is-wired}
-use Rattle.table.specs.Rows.{kindOf, word}
+use Rattle.table.specs.Rows.{kindAt, word}
 use Rattle.table.specs.Bodies.{Row, input, const, op, pick, for, arg, next, end, out, unknown}
 use Rattle.structure.specs.Structure.{Structure}
 use Rattle.lowered.specs.Gathered.{each, position}
@@ -302,10 +302,10 @@ module _ (t : List ℕ) (S : Structure t) where
   unfolding step
   op-does (op c x y) r q h v =
       let w = Tables.op-words t S r c x y q in
-      ap (λ (b : Bool). perform (program (cond b Kinds.OP Kinds.PICK) (cond b (word t r 1) 0) (v .own)) v) (eq-eqb (kindOf t r) 2 (w .1)) ∙ ap (λ (z : ℕ). perform (program Kinds.OP z (v .own)) v) (w .2)
+      ap (λ (b : Bool). perform (program (cond b Kinds.OP Kinds.PICK) (cond b (word t r 1) 0) (v .own)) v) (eq-eqb (kindAt t r) 2 (w .1)) ∙ ap (λ (z : ℕ). perform (program Kinds.OP z (v .own)) v) (w .2)
   op-does (pick f x y) r q h v =
       let w = Tables.pick-words t S r f x y q in
-      ap (λ (b : Bool). perform (program (cond b Kinds.OP Kinds.PICK) (cond b (word t r 1) 0) (v .own)) v) (ne-eqb (kindOf t r) 2 (λ z. let k = w .1 in omega arith))
+      ap (λ (b : Bool). perform (program (cond b Kinds.OP Kinds.PICK) (cond b (word t r 1) 0) (v .own)) v) (ne-eqb (kindAt t r) 2 (λ z. let k = w .1 in omega arith))
   op-does input r q h v = let z : _≡_ {A = ℕ} 0 1 = cc in absurd (omega arith)
   op-does (const x) r q h v = let z : _≡_ {A = ℕ} 0 1 = cc in absurd (omega arith)
   op-does (for s st b u c) r q h v = let z : _≡_ {A = ℕ} 0 1 = cc in absurd (omega arith)

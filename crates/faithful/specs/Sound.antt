@@ -13,7 +13,7 @@ use Prim.Native.Nat.{ℕ, suc, _≤_, _<_}
 use native.Mathlib.Omega.{arith}
 use native.Mathlib.Decide.{decLt, decLe, ℕ-discrete}
 use Rattle.step.specs.Kinds.{Input, in0, in1, in2}
-use Rattle.table.specs.Rows.{kindOf, word, size, operandCount}
+use Rattle.table.specs.Rows.{kindAt, word, size, operandCount}
 use Rattle.table.specs.Scan.{bodyOf, reads, home}
 use Rattle.table.specs.Bodies.{Row, input, const, op, pick, for, arg, next, end, out, unknown, operand, endOf, firstOf, argOf, nextOf}
 use Rattle.structure.specs.Spans.{Encloses, same, inside, outermost}
@@ -34,10 +34,10 @@ module _ (t : List ℕ) (S : Structure t) where
   -- ---- a value that is named
 
   -- no END and no OUT is named
-  no-end : (v : ℕ) → v < size t → kindOf t v ≤ 6 → isStart tb (tb .row v) ≡ true → isIn (tb .row v) ≡ true
+  no-end : (v : ℕ) → v < size t → kindAt t v ≤ 6 → isStart tb (tb .row v) ≡ true → isIn (tb .row v) ≡ true
   no-end v l k h = go (tb .row v) refl (Tables.row-kind t S v l) h
     where
-      go : (d : Row) → tb .row v ≡ d → Tables.rowKind d ≡ kindOf t v → isStart tb d ≡ true → isIn d ≡ true
+      go : (d : Row) → tb .row v ≡ d → Tables.rowKind d ≡ kindAt t v → isStart tb d ≡ true → isIn d ≡ true
       go input q e s = refl
       go (const w) q e s = refl
       go (op c x y) q e s = s
@@ -50,7 +50,7 @@ module _ (t : List ℕ) (S : Structure t) where
       go unknown q e s = absurd (omega arith)
 
   -- it is born before c
-  born-by : (v c : ℕ) → v < size t → v < c → (kindOf t v ≡ 6 → endOf t (bodyOf t v) < c) → born tb v ≤ c
+  born-by : (v c : ℕ) → v < size t → v < c → (kindAt t v ≡ 6 → endOf t (bodyOf t v) < c) → born tb v ≤ c
   born-by v c l b p = go (tb .row v) refl
     where
       go : (d : Row) → tb .row v ≡ d → bornBy d v (tb .last (bodyOf t v)) ≤ c
@@ -70,21 +70,21 @@ module _ (t : List ℕ) (S : Structure t) where
       go unknown q = omega arith
 
   -- where a row's operands are read
-  reads-cases : (r : ℕ) → r < size t → (reads t r ≡ size t) ⊎ ((reads t r < size t) × (kindOf t (reads t r) ≡ 4))
+  reads-cases : (r : ℕ) → r < size t → (reads t r ≡ size t) ⊎ ((reads t r < size t) × (kindAt t (reads t r) ≡ 4))
   reads-cases r l =
-      elim (ℕ-discrete (kindOf t r) 5) [
+      elim (ℕ-discrete (kindAt t r) 5) [
         | yes k ↦
             let A = S .arg-row r l k in
             let lM = Tables.below-by-kind t S (bodyOf t r) 3 (A .loop-for) in
-            subst (λ (z : ℕ). (z ≡ size t) ⊎ ((z < size t) × (kindOf t z ≡ 4))) (sym (S .arg-reads r l k)) (body-cases t S (bodyOf t r) (omega arith))
-        | no n ↦ subst (λ (z : ℕ). (z ≡ size t) ⊎ ((z < size t) × (kindOf t z ≡ 4))) (sym (S .reads-body r n)) (body-cases t S r (omega arith))
+            subst (λ (z : ℕ). (z ≡ size t) ⊎ ((z < size t) × (kindAt t z ≡ 4))) (sym (S .arg-reads r l k)) (body-cases t S (bodyOf t r) (omega arith))
+        | no n ↦ subst (λ (z : ℕ). (z ≡ size t) ⊎ ((z < size t) × (kindAt t z ≡ 4))) (sym (S .reads-body r n)) (body-cases t S r (omega arith))
       ]
 
   reads-for : (r : ℕ) → r < size t → (reads t r ≡ size t) ⊎ IsFor tb (reads t r)
   reads-for r l = elim (reads-cases r l) [ inl e ↦ inl e | inr k ↦ inr (Tables.for-row t S (reads t r) (k .1)) ]
 
   -- an operand that is not at home where it is read is carried in
-  away : (r j : ℕ) → r < size t → j < operandCount (kindOf t r) → tb .home (operand t r j) ≢ reads t r → tb .carried (reads t r) (operand t r j) ≡ true
+  away : (r j : ℕ) → r < size t → j < operandCount (kindAt t r) → tb .home (operand t r j) ≢ reads t r → tb .carried (reads t r) (operand t r j) ≡ true
   away r j l lj n = go (O .at-home) (reads-cases r l)
     where
       O : Operand t r j
@@ -99,10 +99,10 @@ module _ (t : List ℕ) (S : Structure t) where
       h : tb .home v ≡ home t v
       h = Tables.home-of t v lv (O .is-value)
 
-      make : reads t r < size t → kindOf t (reads t r) ≡ 4 → (home t v < reads t r) ⊎ (home t v ≡ size t) → tb .carried (reads t r) v ≡ true
+      make : reads t r < size t → kindAt t (reads t r) ≡ 4 → (home t v < reads t r) ⊎ (home t v ≡ size t) → tb .carried (reads t r) v ≡ true
       make lB k d = by-carried t S (reads t r) v r j k l lj refl (means-inside t S (reads t r) (reads t r) lB k (inl refl)) (outside-of t S (reads t r) (home t v) k lB d)
 
-      go : Encloses t (home t v) (reads t r) → (reads t r ≡ size t) ⊎ ((reads t r < size t) × (kindOf t (reads t r) ≡ 4)) → tb .carried (reads t r) v ≡ true
+      go : Encloses t (home t v) (reads t r) → (reads t r ≡ size t) ⊎ ((reads t r < size t) × (kindAt t (reads t r) ≡ 4)) → tb .carried (reads t r) v ≡ true
       go (same e) c = absurd (n (h ∙ e))
       go (outermost e) (inl c) = absurd (n (h ∙ e ∙ sym c))
       go (outermost e) (inr c) = make (c .0) (c .1) (inr e)
@@ -110,7 +110,7 @@ module _ (t : List ℕ) (S : Structure t) where
       go (inside k lo hi) (inr c) = make (c .0) (c .1) (inl lo)
 
   -- rows of a loop's head are its ARGs
-  heads-at : (c : ℕ) → kindOf t c ≢ 5 → (L : ℕ) → IsFor tb L → L < c → tb .first L ≤ c
+  heads-at : (c : ℕ) → kindAt t c ≢ 5 → (L : ℕ) → IsFor tb L → L < c → tb .first L ≤ c
   heads-at c n L f l =
       let k = Tables.for-kind t S L f in
       let e = first-is t S L (k .1) in
@@ -122,8 +122,8 @@ module _ (t : List ℕ) (S : Structure t) where
   -- ---- uses
 
   -- v read in B until row c, by operand j of row r
-  module _ (r j c B : ℕ) (lr : r < size t) (lj : j < operandCount (kindOf t r)) (e : reads t r ≡ B) where
-    operand-used : Inner tb B c → ((L : ℕ) → IsFor tb L → L < c → tb .first L ≤ c) → operand t r j < c → (kindOf t (operand t r j) ≡ 6 → endOf t (bodyOf t (operand t r j)) < c)
+  module _ (r j c B : ℕ) (lr : r < size t) (lj : j < operandCount (kindAt t r)) (e : reads t r ≡ B) where
+    operand-used : Inner tb B c → ((L : ℕ) → IsFor tb L → L < c → tb .first L ≤ c) → operand t r j < c → (kindAt t (operand t r j) ≡ 6 → endOf t (bodyOf t (operand t r j)) < c)
         → (v : ℕ) → operand t r j ≡ v → Used tb v B c
     operand-used place heads before passed v d =
         subst (λ (z : ℕ). Used tb z B c) d
@@ -141,14 +141,14 @@ module _ (t : List ℕ) (S : Structure t) where
         lv = let b = S .operands r j lr lj .before in omega arith
 
   -- by a row that reads in its own body
-  row-used : (r j v B c : ℕ) → r < size t → kindOf t r ≢ 5 → j < operandCount (kindOf t r) → operand t r j ≡ v → reads t r ≡ B → r ≡ c → Used tb v B c
+  row-used : (r j v B c : ℕ) → r < size t → kindAt t r ≢ 5 → j < operandCount (kindAt t r) → operand t r j ≡ v → reads t r ≡ B → r ≡ c → Used tb v B c
   row-used r j v B c l n lj d e h =
       subst (λ (z : ℕ). Used tb v B z) h
       (operand-used r j r B l lj e (subst (λ (z : ℕ). Inner tb z r) (sym (S .reads-body r n) ∙ e) (inner-at t S r l n)) (heads-at r n)
       (S .operands r j l lj .before) (S .operands r j l lj .passed) v d)
 
-  counts : (r k n : ℕ) → kindOf t r ≡ k → operandCount k ≡ n → (j : ℕ) → j < n → j < operandCount (kindOf t r)
-  counts r k n e h j l = let q : operandCount (kindOf t r) ≡ n = ap operandCount e ∙ h in omega arith
+  counts : (r k n : ℕ) → kindAt t r ≡ k → operandCount k ≡ n → (j : ℕ) → j < n → j < operandCount (kindAt t r)
+  counts r k n e h j l = let q : operandCount (kindAt t r) ≡ n = ap operandCount e ∙ h in omega arith
 
   use-op : (r : ℕ) (d : Row) (k : Input) (v B c : ℕ) → tb .row r ≡ d → opSlot d (reads t r) r k ≡ val v B c → Used tb v B c
   unfolding operandCount
@@ -210,12 +210,12 @@ module _ (t : List ℕ) (S : Structure t) where
   use-guard r unknown k v B c q h = let z : _≡_ {A = ℕ} 0 1 = cc in absurd (omega arith)
 
   -- the place of a FOR, and of an END
-  for-place : (L : ℕ) → kindOf t L ≡ 4 → Inner tb (reads t L) L
+  for-place : (L : ℕ) → kindAt t L ≡ 4 → Inner tb (reads t L) L
   for-place L k =
       let l = Tables.below-by-kind t S L 3 k in
       subst (λ (z : ℕ). Inner tb z L) (sym (S .reads-body L (λ z. omega arith))) (inner-at t S L l (λ z. omega arith))
 
-  end-place : (L : ℕ) → kindOf t L ≡ 4 → Inner tb L (endOf t L)
+  end-place : (L : ℕ) → kindAt t L ≡ 4 → Inner tb L (endOf t L)
   end-place L k =
       let l = Tables.below-by-kind t S L 3 k in
       let s = S .loop-span L l k in
@@ -242,8 +242,8 @@ module _ (t : List ℕ) (S : Structure t) where
       lu : u < size t
       lu = let a = carried-before t S L u C in let b = C .below in omega arith
 
-      ku : kindOf t u ≤ 6
-      ku = subst (λ (z : ℕ). kindOf t z ≤ 6) (C .is-operand) (S .operands (C .row) (C .place) (C .row-below) (C .place-below) .is-value)
+      ku : kindAt t u ≤ 6
+      ku = subst (λ (z : ℕ). kindAt t z ≤ 6) (C .is-operand) (S .operands (C .row) (C .place) (C .row-below) (C .place-below) .is-value)
 
       rb : reads t L ≡ bodyOf t L
       rb = S .reads-body L (λ z. let k = C .is-loop in omega arith)
@@ -319,7 +319,7 @@ module _ (t : List ℕ) (S : Structure t) where
   result-used q x v B c r d e h =
       let w = Tables.out-words t S q x r in
       let l : q < size t = w .0 in
-      let k : kindOf t q ≡ 8 = w .1 in
+      let k : kindAt t q ≡ 8 = w .1 in
       let O = S .operands q 0 l (counts q 8 1 k refl 0 (omega arith)) in
       let b : operand t q 0 < q = O .before in
       let rq : reads t q ≡ size t = S .reads-body q (λ z. omega arith) ∙ S .out-body q l k in
@@ -371,10 +371,10 @@ module _ (t : List ℕ) (S : Structure t) where
 
   -- ---- rows by their form
 
-  op-kind : (r : ℕ) → isOp tb (tb .row r) ≡ true → (r < size t) × ((kindOf t r ≡ 2) ⊎ (kindOf t r ≡ 3))
+  op-kind : (r : ℕ) → isOp tb (tb .row r) ≡ true → (r < size t) × ((kindAt t r ≡ 2) ⊎ (kindAt t r ≡ 3))
   op-kind r h = go (tb .row r) refl h
     where
-      go : (d : Row) → tb .row r ≡ d → isOp tb d ≡ true → (r < size t) × ((kindOf t r ≡ 2) ⊎ (kindOf t r ≡ 3))
+      go : (d : Row) → tb .row r ≡ d → isOp tb d ≡ true → (r < size t) × ((kindAt t r ≡ 2) ⊎ (kindAt t r ≡ 3))
       go input q k = let z : _≡_ {A = ℕ} 0 1 = cc in absurd (omega arith)
       go (const x) q k = let z : _≡_ {A = ℕ} 0 1 = cc in absurd (omega arith)
       go (op o x y) q k = let w = Tables.op-words t S r o x y q in (w .0, inl (w .1))
@@ -386,18 +386,18 @@ module _ (t : List ℕ) (S : Structure t) where
       go (out x) q k = let z : _≡_ {A = ℕ} 0 1 = cc in absurd (omega arith)
       go unknown q k = let z : _≡_ {A = ℕ} 0 1 = cc in absurd (omega arith)
 
-  not-five : (r : ℕ) → (kindOf t r ≡ 2) ⊎ (kindOf t r ≡ 3) → kindOf t r ≢ 5
+  not-five : (r : ℕ) → (kindAt t r ≡ 2) ⊎ (kindAt t r ≡ 3) → kindAt t r ≢ 5
   not-five r (inl k) z = omega arith
   not-five r (inr k) z = omega arith
 
-  at-most-three : (r : ℕ) → (kindOf t r ≡ 2) ⊎ (kindOf t r ≡ 3) → kindOf t r ≤ 6
+  at-most-three : (r : ℕ) → (kindAt t r ≡ 2) ⊎ (kindAt t r ≡ 3) → kindAt t r ≤ 6
   at-most-three r (inl k) = omega arith
   at-most-three r (inr k) = omega arith
 
   start-rows : (v : ℕ) → isStart tb (tb .row v) ≡ true → tb .home v ≡ size t
   start-rows v h = elim (decLt v (size t)) [ yes l ↦ go (tb .row v) refl (Tables.row-kind t S v l) h l | no n ↦ Tables.home-past t v (omega arith) ]
     where
-      go : (d : Row) → tb .row v ≡ d → Tables.rowKind d ≡ kindOf t v → isStart tb d ≡ true → v < size t → tb .home v ≡ size t
+      go : (d : Row) → tb .row v ≡ d → Tables.rowKind d ≡ kindAt t v → isStart tb d ≡ true → v < size t → tb .home v ≡ size t
       go input q e s l = Tables.home-of t v l (omega arith) ∙ S .start-home v (omega arith)
       go (const w) q e s l = Tables.home-of t v l (omega arith) ∙ S .start-home v (omega arith)
       go (op c x y) q e s l = let z : _≡_ {A = ℕ} 0 1 = cc in absurd (omega arith)
@@ -414,14 +414,14 @@ module _ (t : List ℕ) (S : Structure t) where
 
   -- a NEXT's words and its loop
   module _ (x v : ℕ) (q : tb .row x ≡ next v) where
-    nw : (x < size t) × (kindOf t x ≡ 6) × (operand t x 0 ≡ v) × (word t x 1 ≡ v)
+    nw : (x < size t) × (kindAt t x ≡ 6) × (operand t x 0 ≡ v) × (word t x 1 ≡ v)
     nw = Tables.next-words t S x v q
 
     nx : NextRow t x
     nx = S .next-row x (nw .0) (nw .1)
 
   module _ (a i : ℕ) (q : tb .row a ≡ arg i) where
-    aw : (a < size t) × (kindOf t a ≡ 5) × (operand t a 0 ≡ i) × (word t a 1 ≡ i)
+    aw : (a < size t) × (kindAt t a ≡ 5) × (operand t a 0 ≡ i) × (word t a 1 ≡ i)
     aw = Tables.arg-words t S a i q
 
     ax : ArgRow t a
@@ -435,10 +435,10 @@ module _ (t : List ℕ) (S : Structure t) where
         e ∙ ap next (sym (ap named e))
 
   -- an ARG by its kind
-  arg-form : (a : ℕ) → kindOf t a ≡ 5 → (i : ℕ) × (tb .row a ≡ arg i)
+  arg-form : (a : ℕ) → kindAt t a ≡ 5 → (i : ℕ) × (tb .row a ≡ arg i)
   arg-form a k = (word t a 1, Tables.row-at t a (Tables.below-by-kind t S a 4 k) ∙ Tables.is-arg t a k)
 
-  end-kind : (r : ℕ) → tb .row r ≡ end → (r < size t) × (kindOf t r ≡ 7)
+  end-kind : (r : ℕ) → tb .row r ≡ end → (r < size t) × (kindAt t r ≡ 7)
   end-kind r q = let k = Tables.kind-of-row t S r end 7 q refl (omega arith) in (k .0, k .1)
 
   -- THE FACTS, all together
@@ -490,4 +490,4 @@ module _ (t : List ℕ) (S : Structure t) where
     where
       home-is : (L v : ℕ) → CarriedBy t S L v → tb .home v ≡ home t v
       home-is L v C = Tables.home-of t v (let a = carried-before t S L v C in let l = C .below in omega arith)
-          (subst (λ (z : ℕ). kindOf t z ≤ 6) (C .is-operand) (S .operands (C .row) (C .place) (C .row-below) (C .place-below) .is-value))
+          (subst (λ (z : ℕ). kindAt t z ≤ 6) (C .is-operand) (S .operands (C .row) (C .place) (C .row-below) (C .place-below) .is-value))

@@ -19,7 +19,7 @@ use borrow.Author.Tests.{eq-eqb, ne-eqb, eqb-true}
 use lib.Dec.{eqb, leb}
 use Rattle.step.specs.Kinds.{Input, in0, in1, in2, Output, out0, out1, outputs, OP, PICK}
 use Rattle.graph.specs.Graph.{outputPlace}
-use Rattle.table.specs.Rows.{kindOf, word, size, operandCount}
+use Rattle.table.specs.Rows.{kindAt, word, size, operandCount}
 use Rattle.table.specs.Scan.{bodyOf, reads, home}
 use Rattle.table.specs.Bodies.{Row, input, const, op, pick, for, arg, next, end, out, unknown, operand, argOf, nextOf}
 use Rattle.structure.specs.Structure.{Structure}
@@ -44,11 +44,11 @@ module _ (t : List ℕ) (S : Structure t) where
 
   -- ---- values
 
-  home-wire : (v B : ℕ) (b : Bool) → v < size t → kindOf t v ≤ 6 → wireBy b (tb .row v) v (argOf t v) B ≡ cond b (homeWire t v) (output (copyInvariant B v) out0)
+  home-wire : (v B : ℕ) (b : Bool) → v < size t → kindAt t v ≤ 6 → wireBy b (tb .row v) v (argOf t v) B ≡ cond b (homeWire t v) (output (copyInvariant B v) out0)
   home-wire v B false l k = refl
   home-wire v B true l k = go (tb .row v) (Tables.row-kind t S v l)
     where
-      go : (d : Row) → Tables.rowKind d ≡ kindOf t v → wireBy true d v (argOf t v) B ≡ homeWire t v
+      go : (d : Row) → Tables.rowKind d ≡ kindAt t v → wireBy true d v (argOf t v) B ≡ homeWire t v
       go input e = sym (home-of-start t v (omega arith))
       go (const w) e = sym (home-of-start t v (omega arith))
       go (op c x y) e = sym (home-of-op t v (inl (sym e)))
@@ -60,27 +60,27 @@ module _ (t : List ℕ) (S : Structure t) where
       go (out x) e = absurd (omega arith)
       go unknown e = absurd (omega arith)
 
-  pub value-wire : (v B : ℕ) → v < size t → kindOf t v ≤ 6 → Table.wireOf tb v B ≡ valueWire t v B
+  pub value-wire : (v B : ℕ) → v < size t → kindAt t v ≤ 6 → Table.wireOf tb v B ≡ valueWire t v B
   unfolding Table.wireOf valueWire
   value-wire v B l k =
       ap (λ (h : ℕ). wireBy (eqb h B) (tb .row v) v (argOf t v) B) (Tables.home-of t v l k) ∙ home-wire v B (eqb (home t v) B) l k
 
   -- operand j of row r, read in body B
-  operand-wire : (r j v B : ℕ) → r < size t → j < operandCount (kindOf t r) → operand t r j ≡ v → reads t r ≡ B → some (Table.wireOf tb v B) ≡ Sources.wireOf t (Sources.named t r j)
+  operand-wire : (r j v B : ℕ) → r < size t → j < operandCount (kindAt t r) → operand t r j ≡ v → reads t r ≡ B → some (Table.wireOf tb v B) ≡ Sources.wireOf t (Sources.named t r j)
   operand-wire r j v B l lj e d =
       let O = S .operands r j l lj in
       let lv : operand t r j < size t = let b = O .before in omega arith in
       ap some (ap₂ (Table.wireOf tb) (sym e) (sym d) ∙ value-wire (operand t r j) (reads t r) lv (O .is-value))
 
-  counts : (r k n : ℕ) → kindOf t r ≡ k → operandCount k ≡ n → (j : ℕ) → j < n → j < operandCount (kindOf t r)
-  counts r k n e h j l = let q : operandCount (kindOf t r) ≡ n = ap operandCount e ∙ h in omega arith
+  counts : (r k n : ℕ) → kindAt t r ≡ k → operandCount k ≡ n → (j : ℕ) → j < n → j < operandCount (kindAt t r)
+  counts r k n e h j l = let q : operandCount (kindAt t r) ≡ n = ap operandCount e ∙ h in omega arith
 
   -- ---- what the table has
 
-  kind-for : (L : ℕ) → isForRow (tb .row L) ≡ eqb (kindOf t L) 4
+  kind-for : (L : ℕ) → isForRow (tb .row L) ≡ eqb (kindAt t L) 4
   kind-for L = elim (decLt L (size t)) [ yes l ↦ go (tb .row L) (Tables.row-kind t S L l) | no n ↦ rw (Tables.kind-past t S L (omega arith), Tables.row-past t L (omega arith)) ]
     where
-      go : (d : Row) → Tables.rowKind d ≡ kindOf t L → isForRow d ≡ eqb (kindOf t L) 4
+      go : (d : Row) → Tables.rowKind d ≡ kindAt t L → isForRow d ≡ eqb (kindAt t L) 4
       go input e = rw (sym e)
       go (const w) e = rw (sym e)
       go (op c x y) e = rw (sym e)
@@ -92,10 +92,10 @@ module _ (t : List ℕ) (S : Structure t) where
       go (out x) e = rw (sym e)
       go unknown e = rw (sym e)
 
-  kind-op : (r : ℕ) → Table.isOp tb (tb .row r) ≡ (eqb (kindOf t r) 2 || eqb (kindOf t r) 3)
+  kind-op : (r : ℕ) → Table.isOp tb (tb .row r) ≡ (eqb (kindAt t r) 2 || eqb (kindAt t r) 3)
   kind-op r = elim (decLt r (size t)) [ yes l ↦ go (tb .row r) (Tables.row-kind t S r l) | no n ↦ rw (Tables.kind-past t S r (omega arith), Tables.row-past t r (omega arith)) ]
     where
-      go : (d : Row) → Tables.rowKind d ≡ kindOf t r → Table.isOp tb d ≡ (eqb (kindOf t r) 2 || eqb (kindOf t r) 3)
+      go : (d : Row) → Tables.rowKind d ≡ kindAt t r → Table.isOp tb d ≡ (eqb (kindAt t r) 2 || eqb (kindAt t r) 3)
       go input e = rw (sym e)
       go (const w) e = rw (sym e)
       go (op c x y) e = rw (sym e)
@@ -107,15 +107,15 @@ module _ (t : List ℕ) (S : Structure t) where
       go (out x) e = rw (sym e)
       go unknown e = rw (sym e)
 
-  kind-out : (q : ℕ) (d : Row) → tb .row q ≡ d → ((x : ℕ) → d ≡ out x → ⊥) → eqb (kindOf t q) 8 ≡ false
-  kind-out q d e n = ne-eqb (kindOf t q) 8 (λ k. let l = Tables.below-by-kind t S q 7 k in n (word t q 1) (sym e ∙ Tables.row-at t q l ∙ Tables.is-out t q k))
+  kind-out : (q : ℕ) (d : Row) → tb .row q ≡ d → ((x : ℕ) → d ≡ out x → ⊥) → eqb (kindAt t q) 8 ≡ false
+  kind-out q d e n = ne-eqb (kindAt t q) 8 (λ k. let l = Tables.below-by-kind t S q 7 k in n (word t q 1) (sym e ∙ Tables.row-at t q l ∙ Tables.is-out t q k))
 
   -- a node that the table does not have takes nothing
   none-there : (n : Role) (k : Input) → Sources.has t n ≡ false → source t (into n k) ≡ none
   unfolding source Sources.feed
   none-there n k h = rw h
 
-  not-result : (q : ℕ) → eqb (kindOf t q) 8 ≡ false → source t (result q) ≡ none
+  not-result : (q : ℕ) → eqb (kindAt t q) 8 ≡ false → source t (result q) ≡ none
   unfolding source Sources.feed
   not-result q h = rw h
 
@@ -131,7 +131,7 @@ module _ (t : List ℕ) (S : Structure t) where
       operand-wire r 1 y (reads t r) (w .0) (counts r 2 2 (w .1) refl 1 (omega arith)) (w .4) refl ∙ sym (node-feed t (opNode r) in1 (sym (kind-op r) ∙ ap (Table.isOp tb) q))
   op-source r (op c x y) q in2 =
       let w = Tables.op-words t S r c x y q in
-      sym (node-feed t (opNode r) in2 (sym (kind-op r) ∙ ap (Table.isOp tb) q) ∙ ap (Sources.wireOf t) (two (eqb (kindOf t r) 3) (ne-eqb (kindOf t r) 3 (λ z. let k = w .1 in omega arith))))
+      sym (node-feed t (opNode r) in2 (sym (kind-op r) ∙ ap (Table.isOp tb) q) ∙ ap (Sources.wireOf t) (two (eqb (kindAt t r) 3) (ne-eqb (kindAt t r) 3 (λ z. let k = w .1 in omega arith))))
     where
       two : (b : Bool) → b ≡ false → cond b (Sources.named t r 2) Sources.nothing ≡ Sources.nothing
       two b h = rw h
@@ -144,7 +144,7 @@ module _ (t : List ℕ) (S : Structure t) where
   op-source r (pick f x y) q in2 =
       let w = Tables.pick-words t S r f x y q in
       operand-wire r 2 y (reads t r) (w .0) (counts r 3 3 (w .1) refl 2 (omega arith)) (w .4) refl
-      ∙ sym (node-feed t (opNode r) in2 (sym (kind-op r) ∙ ap (Table.isOp tb) q) ∙ ap (Sources.wireOf t) (three (eqb (kindOf t r) 3) (eq-eqb (kindOf t r) 3 (w .1))))
+      ∙ sym (node-feed t (opNode r) in2 (sym (kind-op r) ∙ ap (Table.isOp tb) q) ∙ ap (Sources.wireOf t) (three (eqb (kindAt t r) 3) (eq-eqb (kindAt t r) 3 (w .1))))
     where
       three : (b : Bool) → b ≡ true → cond b (Sources.named t r 2) Sources.nothing ≡ Sources.named t r 2
       three b h = rw h
@@ -213,7 +213,7 @@ module _ (t : List ℕ) (S : Structure t) where
   split-source L v true e in1 =
       let C = carried-by t S L v e in
       let lv : v < size t = let a = carried-before t S L v C in let b = C .below in omega arith in
-      let kv : kindOf t v ≤ 6 = subst (λ (z : ℕ). kindOf t z ≤ 6) (C .is-operand) (S .operands (C .row) (C .place) (C .row-below) (C .place-below) .is-value) in
+      let kv : kindAt t v ≤ 6 = subst (λ (z : ℕ). kindAt t z ≤ 6) (C .is-operand) (S .operands (C .row) (C .place) (C .row-below) (C .place-below) .is-value) in
       ap some (value-wire v (reads t L) lv kv) ∙ sym (node-feed t (copySplit L v) in1 e)
   split-source L v true e in2 = sym (node-feed t (copySplit L v) in2 e)
 
@@ -267,7 +267,7 @@ module _ (t : List ℕ) (S : Structure t) where
   result-source q (out x) e =
       let w = Tables.out-words t S q x e in
       operand-wire q 0 x (size t) (w .0) (counts q 8 1 (w .1) refl 0 (omega arith)) (w .2) (S .reads-body q (λ z. let k = w .1 in omega arith) ∙ S .out-body q (w .0) (w .1))
-      ∙ sym (result-feed t q (eq-eqb (kindOf t q) 8 (w .1)))
+      ∙ sym (result-feed t q (eq-eqb (kindAt t q) 8 (w .1)))
   result-source q input e = sym (not-result q (kind-out q input e (λ x d. let z : _≡_ {A = ℕ} 0 1 = cc in omega arith)))
   result-source q (const w) e = sym (not-result q (kind-out q (const w) e (λ x d. let z : _≡_ {A = ℕ} 0 1 = cc in omega arith)))
   result-source q (op c x y) e = sym (not-result q (kind-out q (op c x y) e (λ x d. let z : _≡_ {A = ℕ} 0 1 = cc in omega arith)))
@@ -296,7 +296,7 @@ module _ (t : List ℕ) (S : Structure t) where
   for-real n L f a b h =
       let k = Tables.for-kind t S L f in
       let l : L < size t = k .0 in
-      record { row = omega arith; value = omega arith; there = h ∙ eq-eqb (kindOf t L) 4 (k .1) }
+      record { row = omega arith; value = omega arith; there = h ∙ eq-eqb (kindAt t L) 4 (k .1) }
 
   copy-real : (n : Role) (L v : ℕ) → tb .carried L v ≡ true → Listed.roleRow n ≡ L → Listed.roleValue n ≡ v → Sources.has t n ≡ tb .carried L v → Listed.Real t n
   copy-real n L v c a b h =
@@ -308,7 +308,7 @@ module _ (t : List ℕ) (S : Structure t) where
   arg-real n a i q d b h =
       let w = Tables.arg-words t S a i q in
       let l : a < size t = w .0 in
-      record { row = omega arith; value = omega arith; there = h ∙ eq-eqb (kindOf t a) 5 (w .1) }
+      record { row = omega arith; value = omega arith; there = h ∙ eq-eqb (kindAt t a) 5 (w .1) }
 
   pub to-real : (n : Role) → Table.Real tb n → Listed.Real t n
   to-real (opNode r) rl = record { row = rl .0; value = rl .0; there = sym (kind-op r) ∙ rl .1 }
@@ -321,35 +321,35 @@ module _ (t : List ℕ) (S : Structure t) where
   to-real (argSplit a) rl = arg-real (argSplit a) a (rl .0) (rl .1) refl refl refl
 
   arg-form : (a : ℕ) → isArgRow t a ≡ true → (i : ℕ) × (tb .row a ≡ arg i)
-  arg-form a h = let k = eqb-true (kindOf t a) 5 h in (word t a 1, Tables.row-at t a (Tables.below-by-kind t S a 4 k) ∙ Tables.is-arg t a k)
+  arg-form a h = let k = eqb-true (kindAt t a) 5 h in (word t a 1, Tables.row-at t a (Tables.below-by-kind t S a 4 k) ∙ Tables.is-arg t a k)
 
   pub from-real : (n : Role) → Listed.Real t n → Table.Real tb n
   from-real (opNode r) rl = (rl .row, kind-op r ∙ rl .there)
-  from-real (stream L) rl = Tables.for-row t S L (eqb-true (kindOf t L) 4 (rl .there))
-  from-real (gate L) rl = Tables.for-row t S L (eqb-true (kindOf t L) 4 (rl .there))
-  from-real (guard L) rl = Tables.for-row t S L (eqb-true (kindOf t L) 4 (rl .there))
+  from-real (stream L) rl = Tables.for-row t S L (eqb-true (kindAt t L) 4 (rl .there))
+  from-real (gate L) rl = Tables.for-row t S L (eqb-true (kindAt t L) 4 (rl .there))
+  from-real (guard L) rl = Tables.for-row t S L (eqb-true (kindAt t L) 4 (rl .there))
   from-real (copySplit L v) rl = (Tables.for-row t S L (carried-by t S L v (rl .there) .is-loop), rl .there)
   from-real (copyInvariant L v) rl = (Tables.for-row t S L (carried-by t S L v (rl .there) .is-loop), rl .there)
   from-real (carry a) rl = arg-form a (rl .there)
   from-real (argSplit a) rl = arg-form a (rl .there)
 
   -- a node that takes something is in the table
-  op-cases : (r : ℕ) → (eqb (kindOf t r) 2 || eqb (kindOf t r) 3) ≡ true → r < size t
-  op-cases r h = go (eqb (kindOf t r) 2) refl h
+  op-cases : (r : ℕ) → (eqb (kindAt t r) 2 || eqb (kindAt t r) 3) ≡ true → r < size t
+  op-cases r h = go (eqb (kindAt t r) 2) refl h
     where
-      go : (b : Bool) → eqb (kindOf t r) 2 ≡ b → (b || eqb (kindOf t r) 3) ≡ true → r < size t
-      go true e k = Tables.below-by-kind t S r 1 (eqb-true (kindOf t r) 2 e)
-      go false e k = Tables.below-by-kind t S r 2 (eqb-true (kindOf t r) 3 k)
+      go : (b : Bool) → eqb (kindAt t r) 2 ≡ b → (b || eqb (kindAt t r) 3) ≡ true → r < size t
+      go true e k = Tables.below-by-kind t S r 1 (eqb-true (kindAt t r) 2 e)
+      go false e k = Tables.below-by-kind t S r 2 (eqb-true (kindAt t r) 3 k)
 
   real-if-has : (n : Role) → Sources.has t n ≡ true → Listed.Real t n
   real-if-has (opNode r) h = record { row = op-cases r h; value = op-cases r h; there = h }
-  real-if-has (stream L) h = let l = Tables.below-by-kind t S L 3 (eqb-true (kindOf t L) 4 h) in record { row = l; value = l; there = h }
-  real-if-has (gate L) h = let l = Tables.below-by-kind t S L 3 (eqb-true (kindOf t L) 4 h) in record { row = l; value = l; there = h }
-  real-if-has (guard L) h = let l = Tables.below-by-kind t S L 3 (eqb-true (kindOf t L) 4 h) in record { row = l; value = l; there = h }
+  real-if-has (stream L) h = let l = Tables.below-by-kind t S L 3 (eqb-true (kindAt t L) 4 h) in record { row = l; value = l; there = h }
+  real-if-has (gate L) h = let l = Tables.below-by-kind t S L 3 (eqb-true (kindAt t L) 4 h) in record { row = l; value = l; there = h }
+  real-if-has (guard L) h = let l = Tables.below-by-kind t S L 3 (eqb-true (kindAt t L) 4 h) in record { row = l; value = l; there = h }
   real-if-has (copySplit L v) h = copy-real (copySplit L v) L v h refl refl refl
   real-if-has (copyInvariant L v) h = copy-real (copyInvariant L v) L v h refl refl refl
-  real-if-has (carry a) h = let l = Tables.below-by-kind t S a 4 (eqb-true (kindOf t a) 5 h) in record { row = l; value = l; there = h }
-  real-if-has (argSplit a) h = let l = Tables.below-by-kind t S a 4 (eqb-true (kindOf t a) 5 h) in record { row = l; value = l; there = h }
+  real-if-has (carry a) h = let l = Tables.below-by-kind t S a 4 (eqb-true (kindAt t a) 5 h) in record { row = l; value = l; there = h }
+  real-if-has (argSplit a) h = let l = Tables.below-by-kind t S a 4 (eqb-true (kindAt t a) 5 h) in record { row = l; value = l; there = h }
 
   pub use-is-listed : (p : Use) (w : Wire) → source t p ≡ some w → Among p (Lower.uses t)
   use-is-listed (into n k) w h = go (Sources.has t n) refl
@@ -357,10 +357,10 @@ module _ (t : List ℕ) (S : Structure t) where
       go : (b : Bool) → Sources.has t n ≡ b → Among (into n k) (Lower.uses t)
       go true e = Uses.node-use-is-listed t n k w (real-if-has n e) h
       go false e = let q = none-there n k e in let z : _≡_ {A = ℕ} 0 1 = cc in absurd (omega arith)
-  use-is-listed (result q) w h = go (eqb (kindOf t q) 8) refl
+  use-is-listed (result q) w h = go (eqb (kindAt t q) 8) refl
     where
-      go : (b : Bool) → eqb (kindOf t q) 8 ≡ b → Among (result q) (Lower.uses t)
-      go true e = Uses.result-use-is-listed t q w (Tables.below-by-kind t S q 7 (eqb-true (kindOf t q) 8 e)) e h
+      go : (b : Bool) → eqb (kindAt t q) 8 ≡ b → Among (result q) (Lower.uses t)
+      go true e = Uses.result-use-is-listed t q w (Tables.below-by-kind t S q 7 (eqb-true (kindAt t q) 8 e)) e h
       go false e = let k = not-result q e in let z : _≡_ {A = ℕ} 0 1 = cc in absurd (omega arith)
 
   -- ---- wires
@@ -370,7 +370,7 @@ module _ (t : List ℕ) (S : Structure t) where
   op-one false = refl
 
   pub has-out : (n : Role) (o : Output) → HasOut n o → outputPlace o < outputs (roleKind t n)
-  has-out (opNode r) out0 h = let e = op-one (eqb (kindOf t r) 2) in omega arith
+  has-out (opNode r) out0 h = let e = op-one (eqb (kindAt t r) 2) in omega arith
   has-out (opNode r) out1 h = absurd h
   has-out (stream L) out0 h = omega arith
   has-out (stream L) out1 h = omega arith
@@ -389,7 +389,7 @@ module _ (t : List ℕ) (S : Structure t) where
 
   out-has : (n : Role) (o : Output) → outputPlace o < outputs (roleKind t n) → HasOut n o
   out-has n out0 h = tt
-  out-has (opNode r) out1 h = let e = op-one (eqb (kindOf t r) 2) in absurd (omega arith)
+  out-has (opNode r) out1 h = let e = op-one (eqb (kindAt t r) 2) in absurd (omega arith)
   out-has (stream L) out1 h = tt
   out-has (gate L) out1 h = tt
   out-has (guard L) out1 h = absurd (omega arith)
@@ -398,10 +398,10 @@ module _ (t : List ℕ) (S : Structure t) where
   out-has (carry a) out1 h = absurd (omega arith)
   out-has (argSplit a) out1 h = tt
 
-  kind-in : (v : ℕ) → v < size t → isIn (tb .row v) ≡ leb (kindOf t v) 1
+  kind-in : (v : ℕ) → v < size t → isIn (tb .row v) ≡ leb (kindAt t v) 1
   kind-in v l = go (tb .row v) (Tables.row-kind t S v l)
     where
-      go : (d : Row) → Tables.rowKind d ≡ kindOf t v → isIn d ≡ leb (kindOf t v) 1
+      go : (d : Row) → Tables.rowKind d ≡ kindAt t v → isIn d ≡ leb (kindAt t v) 1
       go input e = rw (sym e)
       go (const w) e = rw (sym e)
       go (op c x y) e = rw (sym e)

@@ -49,7 +49,7 @@ use Rattle.state.specs.Net.{netOf}
 use Rattle.state.specs.Run
 use Rattle.state.specs.Run.{COMPLETE, SPENT, STRANDED, ZERO-STEP, outcome}
 use Rattle.confluence.specs.Statements.{Fires, AtRest, putOnWire, every-order-rests-alike, runOf, madeBy, enough-is-not-spent, run-is-an-order}
-use Rattle.table.specs.Rows.{kindOf, size, FOR}
+use Rattle.table.specs.Rows.{kindAt, size, FOR}
 use Rattle.table.specs.Scan.{bodyOf, readStack, reads}
 use Rattle.table.specs.Check.{tableRefusal, answer}
 use Rattle.structure.specs.Structure.{Structure, passing-table-has-structure}
@@ -91,8 +91,8 @@ streamNode t L = position sameRole (stream L) (roles t)
 -- What an order has put on the conditions of each loop: for its openings in turn, N ones and a zero on the raw one, and N - 1 ones and a zero, or
 -- nothing for N = 0, on the gated one.
 pub record ConditionsTold (t : List ℕ) (openings : List Opening) (order s : List ℕ) : Type 0 where
-  pub raw : (L : ℕ) → kindOf t L ≡ FOR → putOnWire (loweredWords t) order s (rawWire t L) ≡ rawOf (turnsOf L openings)
-  pub gated : (L : ℕ) → kindOf t L ≡ FOR → putOnWire (loweredWords t) order s (gatedWire t L) ≡ gatedOf (turnsOf L openings)
+  pub raw : (L : ℕ) → kindAt t L ≡ FOR → putOnWire (loweredWords t) order s (rawWire t L) ≡ rawOf (turnsOf L openings)
+  pub gated : (L : ℕ) → kindAt t L ≡ FOR → putOnWire (loweredWords t) order s (gatedWire t L) ≡ gatedOf (turnsOf L openings)
 
 -- An order that has come to rest in u, after F firings, has done what the reading did.
 pub record EndsAsRead (t inputs words : List ℕ) (openings : List Opening) (F : ℕ) (order u : List ℕ) : Type 0 where
@@ -108,8 +108,8 @@ pub record Faithful (t inputs words : List ℕ) (openings : List Opening) (F : �
   -- it can be extended until it rests
   pub extends : (more : List ℕ) × (v : List ℕ) × Fires (loweredWords t) more u v × AtRest (loweredWords t) v × (length order + length more ≡ F)
   -- at any moment the words that have passed on a loop's conditions are the first of those that will have
-  pub raw-so-far : (L : ℕ) → kindOf t L ≡ FOR → (rest : List ℕ) × (putOnWire (loweredWords t) order (loadedTable t inputs) (rawWire t L) ++ rest ≡ rawOf (turnsOf L openings))
-  pub gated-so-far : (L : ℕ) → kindOf t L ≡ FOR → (rest : List ℕ) × (putOnWire (loweredWords t) order (loadedTable t inputs) (gatedWire t L) ++ rest ≡ gatedOf (turnsOf L openings))
+  pub raw-so-far : (L : ℕ) → kindAt t L ≡ FOR → (rest : List ℕ) × (putOnWire (loweredWords t) order (loadedTable t inputs) (rawWire t L) ++ rest ≡ rawOf (turnsOf L openings))
+  pub gated-so-far : (L : ℕ) → kindAt t L ≡ FOR → (rest : List ℕ) × (putOnWire (loweredWords t) order (loadedTable t inputs) (gatedWire t L) ++ rest ≡ gatedOf (turnsOf L openings))
   -- and if it rests, it ends as the reading does
   pub ends : AtRest (loweredWords t) u → EndsAsRead t inputs words openings F order u
 
@@ -118,7 +118,7 @@ pub record FaultNamed (t : List ℕ) (L : ℕ) (u : List ℕ) (o : Run.Outcome) 
   -- that loop's STREAM waits with a zero step; o is ZERO STEP and names a STREAM that waits so, the lowest that does
   pub met : ZeroStepNamed (loweredWords t) u (streamNode t L) o
   -- it is of no loop that the reading has left: not below the STREAM of any loop of the outermost body at row L or above
-  pub not-behind : (M : ℕ) → kindOf t M ≡ FOR → bodyOf t M ≡ size t → M ≤ L → streamNode t M ≤ o .node
+  pub not-behind : (M : ℕ) → kindAt t M ≡ FOR → bodyOf t M ≡ size t → M ≤ L → streamNode t M ≤ o .node
   -- so where L stands in no other loop, its own STREAM is named
   pub own : bodyOf t L ≡ size t → o .node ≡ streamNode t L
 
@@ -267,7 +267,7 @@ module _ (t : List ℕ) (checked : checkAnswer t .number ≡ 0) where
           let Z = zero-step-lasts (loweredWords t) ok (later .0) (f .state) u (streamNode t L) (f .waits) (later .1) in
           answers-zero-step (loweredWords t) u (streamNode t L) (node-in-range (loweredWords t) (streamNode t L) (Z .node) (Z .here)) Z h (not-complete t S ok u L (f .is-for) Z)
 
-      not-behind : (M : ℕ) → kindOf t M ≡ FOR → bodyOf t M ≡ size t → M ≤ L → streamNode t M ≤ outcome (loweredWords t) u .node
+      not-behind : (M : ℕ) → kindAt t M ≡ FOR → bodyOf t M ≡ size t → M ≤ L → streamNode t M ≤ outcome (loweredWords t) u .node
       not-behind M k b come =
           let here = for-row t S M k in
           let outside : reads t M ≡ size t = rw k b in

@@ -13,7 +13,7 @@ use lib.Dec.{eqb}
 use Rattle.word.specs.Words.{flag}
 use Rattle.graph.specs.Below.{joined, total}
 use Rattle.graph.specs.Graph.{absent}
-use Rattle.table.specs.Rows.{kindOf, word}
+use Rattle.table.specs.Rows.{kindAt, word}
 use Rattle.lowered.specs.Gathered.{those}
 use Rattle.lowered.specs.Lower.{startWords}
 use Rattle.laid.specs.Those.{those-more}
@@ -103,13 +103,13 @@ start-constant g at word inputs {kind} n = (rw (ne-eqb kind 0 n) (omega arith), 
 
 -- how many INPUT rows came before
 abbrev pub inputsBefore : List ℕ → ℕ → ℕ
-inputsBefore t r = length (those (λ q. eqb (kindOf t q) 0) r)
+inputsBefore t r = length (those (λ q. eqb (kindAt t q) 0) r)
 
-pub inputs-more : (t : List ℕ) (r : ℕ) → inputsBefore t (r + 1) ≡ inputsBefore t r + flag (eqb (kindOf t r) 0)
-inputs-more t r = rw (add-one r) (those-more (λ q. eqb (kindOf t q) 0) r)
+pub inputs-more : (t : List ℕ) (r : ℕ) → inputsBefore t (r + 1) ≡ inputsBefore t r + flag (eqb (kindAt t r) 0)
+inputs-more t r = rw (add-one r) (those-more (λ q. eqb (kindAt t q) 0) r)
 
 start-long : (t : List ℕ) (r : ℕ) → length (startWords t r) ≡ 2
-start-long t r = go (eqb (kindOf t r) 0)
+start-long t r = go (eqb (kindAt t r) 0)
   where
     go : (b : Bool) → length (cond b (0 ∷ inputsBefore t r ∷ []) (1 ∷ word t r 1 ∷ [])) ≡ 2
     go true = refl
@@ -119,11 +119,11 @@ pub starts-long : (t : List ℕ) (n : ℕ) → length (joined (startWords t) n) 
 starts-long t n = joined-long (startWords t) 2 (start-long t) n
 
 pub next-start-written : (t : List ℕ) (at r : ℕ) (g : List ℕ) {g1 g2 : List ℕ} {inputs : ℕ} → inputs ≡ inputsBefore t r → g1 ≡ sets g at (joined (startWords t) r)
-    → g2 ≡ sets g1 (at + 2 * r) (startBy (kindOf t r) (word t r 1) inputs) → g2 ≡ sets g at (joined (startWords t) (r + 1))
+    → g2 ≡ sets g1 (at + 2 * r) (startBy (kindAt t r) (word t r 1) inputs) → g2 ≡ sets g at (joined (startWords t) (r + 1))
 next-start-written t at r g {g1} {g2} e h k =
     let l = starts-long t r in
     written-more (startWords t) r at g h (let z : at + 2 * r ≡ at + length (joined (startWords t) r) = omega arith in z)
-    (k ∙ ap (λ (n : ℕ). sets g1 (at + 2 * r) (startBy (kindOf t r) (word t r 1) n)) e)
+    (k ∙ ap (λ (n : ℕ). sets g1 (at + 2 * r) (startBy (kindAt t r) (word t r 1) n)) e)
 
 -- ---- sorts
 

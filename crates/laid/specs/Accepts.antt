@@ -23,7 +23,7 @@ use Rattle.graph.specs.Graph.{nodeCount, wireCount, startKindAt, startWordAt, i
 use Rattle.graph.specs.Refusal.{Shaped, graphRefusal}
 use Rattle.graph.specs.Accepted.{Row, Accepted, input-of-node, node-in-range}
 use Rattle.graph.specs.Enough.{accepted-is-not-refused}
-use Rattle.table.specs.Rows.{kindOf, size}
+use Rattle.table.specs.Rows.{kindAt, size}
 use Rattle.table.specs.Check.{tableRefusal, answer}
 use Rattle.structure.specs.Structure.{Structure, passing-table-has-structure}
 use Rattle.lowered.specs.Gathered.{those, each}
@@ -104,10 +104,10 @@ module _ (p q : ℕ → Bool) (all : (v : ℕ) → q v ≡ true → p v ≡ true
 -- ---- starts
 module _ (t : List ℕ) where
   abbrev isInput : ℕ → Bool
-  isInput r = eqb (kindOf t r) 0
+  isInput r = eqb (kindAt t r) 0
 
   input-is-start : (v : ℕ) → isInput v ≡ true → isStart t v ≡ true
-  input-is-start v e = let k = eqb-true (kindOf t v) 0 e in le-leb (kindOf t v) 1 (omega arith)
+  input-is-start v e = let k = eqb-true (kindAt t v) 0 e in le-leb (kindAt t v) 1 (omega arith)
 
   start-words-kind : (r : ℕ) (b : Bool) → isInput r ≡ b → getD (startWords t r) 0 0 ≡ pick b 0 1
   start-words-kind r true e = rw e

@@ -18,7 +18,7 @@ use native.Mathlib.Nat.{mul-zero, mul-suc, zero-add}
 use borrow.Author.Tests.{ne-eqb, le-leb}
 use lib.ListN.{length, getElem?, length-append}
 use Rattle.step.specs.Kinds.{out0, out1}
-use Rattle.table.specs.Rows.{kindOf, size}
+use Rattle.table.specs.Rows.{kindAt, size}
 use Rattle.structure.specs.Structure.{Structure}
 use Rattle.lowered.specs.Gathered.{gathered, those, each}
 use Rattle.lowered.specs.Roles.{Role, opNode, stream, gate, guard, copySplit, copyInvariant, carry, argSplit, Wire, start, output, sameWire}
@@ -126,11 +126,11 @@ module _ (t : List ℕ) where
       output (stream L) out0 ∷ output (stream L) out1 ∷ output (gate L) out0 ∷ output (gate L) out1 ∷ output (guard L) out0
       ∷ each (copyOutputs L) (carriedInto t L)
 
-  pub for-outputs : (L : ℕ) → kindOf t L ≡ 4 → each (roleOutputs t) (rowRoles t L) ≡ loopOutputs L
+  pub for-outputs : (L : ℕ) → kindAt t L ≡ 4 → each (roleOutputs t) (rowRoles t L) ≡ loopOutputs L
   unfolding each
   for-outputs L k = ap (each (roleOutputs t)) (for-roles t L k) ∙ ap (λ (ws : List Wire). output (stream L) out0 ∷ output (stream L) out1 ∷ output (gate L) out0 ∷ output (gate L) out1 ∷ output (guard L) out0 ∷ ws) (copies-outputs L (carriedInto t L))
 
-  pub arg-outputs : (a : ℕ) → kindOf t a ≡ 5 → each (roleOutputs t) (rowRoles t a) ≡ output (carry a) out0 ∷ output (argSplit a) out0 ∷ output (argSplit a) out1 ∷ []
+  pub arg-outputs : (a : ℕ) → kindAt t a ≡ 5 → each (roleOutputs t) (rowRoles t a) ≡ output (carry a) out0 ∷ output (argSplit a) out0 ∷ output (argSplit a) out1 ∷ []
   unfolding each
   arg-outputs a k = ap (each (roleOutputs t)) (arg-roles t a k)
 
@@ -141,9 +141,9 @@ module _ (t : List ℕ) where
   unfolding each
   op-outputs r h = ap (each (roleOutputs t)) (op-roles t r h) ∙ ap (λ (ws : List Wire). ws ++ []) (one-output r h)
 
-  pub no-roles : (r : ℕ) → kindOf t r ≢ 2 → kindOf t r ≢ 3 → kindOf t r ≢ 4 → kindOf t r ≢ 5 → rowRoles t r ≡ []
+  pub no-roles : (r : ℕ) → kindAt t r ≢ 2 → kindAt t r ≢ 3 → kindAt t r ≢ 4 → kindAt t r ≢ 5 → rowRoles t r ≡ []
   unfolding rowRoles
-  no-roles r a b c d = rw (ne-eqb (kindOf t r) 2 a, ne-eqb (kindOf t r) 3 b, ne-eqb (kindOf t r) 4 c, ne-eqb (kindOf t r) 5 d)
+  no-roles r a b c d = rw (ne-eqb (kindAt t r) 2 a, ne-eqb (kindAt t r) 3 b, ne-eqb (kindAt t r) 4 c, ne-eqb (kindAt t r) 5 d)
 
   copies-long : (L : ℕ) (vs : List ℕ) → length (each (copy L) vs) ≡ 2 * length vs
   copies-long L vs = length-pieces (copy L) 2 (λ v. refl) vs
@@ -151,12 +151,12 @@ module _ (t : List ℕ) where
   pub node-base-op : (r : ℕ) → isOp t r ≡ true → nodeBase t (suc r) ≡ nodeBase t r + 1
   node-base-op r h = node-step r ∙ ap (λ (ns : List Role). nodeBase t r + length ns) (op-roles t r h)
 
-  pub node-base-for : (L : ℕ) → kindOf t L ≡ 4 → nodeBase t (suc L) ≡ nodeBase t L + (3 + 2 * length (carriedInto t L))
+  pub node-base-for : (L : ℕ) → kindAt t L ≡ 4 → nodeBase t (suc L) ≡ nodeBase t L + (3 + 2 * length (carriedInto t L))
   node-base-for L k =
       let c = copies-long L (carriedInto t L) in
       node-step L ∙ ap (λ (ns : List Role). nodeBase t L + length ns) (for-roles t L k) ∙ (let e : nodeBase t L + suc (suc (suc (length (each (copy L) (carriedInto t L))))) ≡ nodeBase t L + (3 + 2 * length (carriedInto t L)) = omega arith in e)
 
-  pub node-base-arg : (a : ℕ) → kindOf t a ≡ 5 → nodeBase t (suc a) ≡ nodeBase t a + 2
+  pub node-base-arg : (a : ℕ) → kindAt t a ≡ 5 → nodeBase t (suc a) ≡ nodeBase t a + 2
   node-base-arg a k = node-step a ∙ ap (λ (ns : List Role). nodeBase t a + length ns) (arg-roles t a k)
 
   pub node-base-other : (r : ℕ) → rowRoles t r ≡ [] → nodeBase t (suc r) ≡ nodeBase t r
@@ -165,13 +165,13 @@ module _ (t : List ℕ) where
   pub wire-base-op : (r : ℕ) → isOp t r ≡ true → wireBase t (suc r) ≡ wireBase t r + 1
   wire-base-op r h = wire-step r ∙ ap (λ (ws : List Wire). wireBase t r + length ws) (op-outputs r h)
 
-  pub wire-base-for : (L : ℕ) → kindOf t L ≡ 4 → wireBase t (suc L) ≡ wireBase t L + (5 + 3 * length (carriedInto t L))
+  pub wire-base-for : (L : ℕ) → kindAt t L ≡ 4 → wireBase t (suc L) ≡ wireBase t L + (5 + 3 * length (carriedInto t L))
   wire-base-for L k =
       let c = length-pieces (copyOutputs L) 3 (λ v. refl) (carriedInto t L) in
       wire-step L ∙ ap (λ (ws : List Wire). wireBase t L + length ws) (for-outputs L k)
       ∙ (let e : wireBase t L + suc (suc (suc (suc (suc (length (each (copyOutputs L) (carriedInto t L))))))) ≡ wireBase t L + (5 + 3 * length (carriedInto t L)) = omega arith in e)
 
-  pub wire-base-arg : (a : ℕ) → kindOf t a ≡ 5 → wireBase t (suc a) ≡ wireBase t a + 3
+  pub wire-base-arg : (a : ℕ) → kindAt t a ≡ 5 → wireBase t (suc a) ≡ wireBase t a + 3
   wire-base-arg a k = wire-step a ∙ ap (λ (ws : List Wire). wireBase t a + length ws) (arg-outputs a k)
 
   -- ---- the numbers of wires
@@ -194,19 +194,19 @@ module _ (t : List ℕ) where
   pub op-number : (r : ℕ) → r < size t → isOp t r ≡ true → wireNumber t (output (opNode r) out0) ≡ wireBase t r + 0
   op-number r l h = in-outputs r 0 (output (opNode r) out0) _ l (op-outputs r h) refl
 
-  pub stream-number : (L : ℕ) → L < size t → kindOf t L ≡ 4 → (wireNumber t (output (stream L) out0) ≡ wireBase t L + 0) × (wireNumber t (output (stream L) out1) ≡ wireBase t L + 1)
+  pub stream-number : (L : ℕ) → L < size t → kindAt t L ≡ 4 → (wireNumber t (output (stream L) out0) ≡ wireBase t L + 0) × (wireNumber t (output (stream L) out1) ≡ wireBase t L + 1)
   stream-number L l k = (in-outputs L 0 (output (stream L) out0) _ l (for-outputs L k) refl, in-outputs L 1 (output (stream L) out1) _ l (for-outputs L k) refl)
 
-  pub gate-number : (L : ℕ) → L < size t → kindOf t L ≡ 4 → (wireNumber t (output (gate L) out0) ≡ wireBase t L + 2) × (wireNumber t (output (gate L) out1) ≡ wireBase t L + 3)
+  pub gate-number : (L : ℕ) → L < size t → kindAt t L ≡ 4 → (wireNumber t (output (gate L) out0) ≡ wireBase t L + 2) × (wireNumber t (output (gate L) out1) ≡ wireBase t L + 3)
   gate-number L l k = (in-outputs L 2 (output (gate L) out0) _ l (for-outputs L k) refl, in-outputs L 3 (output (gate L) out1) _ l (for-outputs L k) refl)
 
-  pub guard-number : (L : ℕ) → L < size t → kindOf t L ≡ 4 → wireNumber t (output (guard L) out0) ≡ wireBase t L + 4
+  pub guard-number : (L : ℕ) → L < size t → kindAt t L ≡ 4 → wireNumber t (output (guard L) out0) ≡ wireBase t L + 4
   guard-number L l k = in-outputs L 4 (output (guard L) out0) _ l (for-outputs L k) refl
 
-  pub carry-number : (a : ℕ) → a < size t → kindOf t a ≡ 5 → wireNumber t (output (carry a) out0) ≡ wireBase t a + 0
+  pub carry-number : (a : ℕ) → a < size t → kindAt t a ≡ 5 → wireNumber t (output (carry a) out0) ≡ wireBase t a + 0
   carry-number a l k = in-outputs a 0 (output (carry a) out0) _ l (arg-outputs a k) refl
 
-  pub arg-number : (a : ℕ) → a < size t → kindOf t a ≡ 5 → (wireNumber t (output (argSplit a) out0) ≡ wireBase t a + 1) × (wireNumber t (output (argSplit a) out1) ≡ wireBase t a + 2)
+  pub arg-number : (a : ℕ) → a < size t → kindAt t a ≡ 5 → (wireNumber t (output (argSplit a) out0) ≡ wireBase t a + 1) × (wireNumber t (output (argSplit a) out1) ≡ wireBase t a + 2)
   arg-number a l k = (in-outputs a 1 (output (argSplit a) out0) _ l (arg-outputs a k) refl, in-outputs a 2 (output (argSplit a) out1) _ l (arg-outputs a k) refl)
 
   copy-at : (L v j : ℕ) (w : Wire) → v < size t → carried t L v ≡ true → getElem? (copyOutputs L v) j ≡ some w → getElem? (each (copyOutputs L) (carriedInto t L)) (3 * copyPlace t L v + j) ≡ some w
@@ -214,7 +214,7 @@ module _ (t : List ℕ) where
   copy-at L v j w l c h = piece-at (copyOutputs L) 3 (λ v. refl) (those (carried t L) (size t)) (length (those (carried t L) v)) j v w (those-at (carried t L) (size t) v l c) h
 
   -- the three wires of a copy
-  pub copy-number : (L v j : ℕ) (w : Wire) → L < size t → kindOf t L ≡ 4 → v < size t → carried t L v ≡ true → getElem? (copyOutputs L v) j ≡ some w → wireNumber t w ≡ wireBase t L + (5 + (3 * copyPlace t L v + j))
+  pub copy-number : (L v j : ℕ) (w : Wire) → L < size t → kindAt t L ≡ 4 → v < size t → carried t L v ≡ true → getElem? (copyOutputs L v) j ≡ some w → wireNumber t w ≡ wireBase t L + (5 + (3 * copyPlace t L v + j))
   copy-number L v j w lL k lv c h =
       output-number L (5 + (3 * copyPlace t L v + j)) w lL
       (ap (λ (x : List Wire). getElem? x (5 + (3 * copyPlace t L v + j))) (for-outputs L k)
@@ -233,11 +233,11 @@ module _ (t : List ℕ) (S : Structure t) where
       omega arith
 
   -- 'No other kind stands above an INPUT or CONST', so row v is the v-th of them
-  pub start-number : (v : ℕ) → v < size t → kindOf t v ≤ 1 → wireNumber t (start v) ≡ v
+  pub start-number : (v : ℕ) → v < size t → kindAt t v ≤ 1 → wireNumber t (start v) ≡ v
   unfolding wireNumber wires starts startRows
   start-number v l k =
-      let place = all-starts v (omega arith) (λ r q. le-leb (kindOf t r) 1 (S .starts r v q l k)) in
-      let at = those-at (isStart t) (size t) v l (le-leb (kindOf t v) 1 k) in
+      let place = all-starts v (omega arith) (λ r q. le-leb (kindAt t r) 1 (S .starts r v q l k)) in
+      let at = those-at (isStart t) (size t) v l (le-leb (kindAt t v) 1 k) in
       let e : getElem? (those (isStart t) (size t)) v ≡ some v = ap (getElem? (those (isStart t) (size t))) (sym place) ∙ at in
       let p = piece-at (λ r. start r ∷ []) 1 (λ r. refl) (those (isStart t) (size t)) v 0 v (start v) e refl in
       position-is sameWire (start v) (wires t) v (wires-once t)

@@ -19,7 +19,7 @@ use Rattle.step.specs.Kinds.{Kind, STREAM, GATE, CARRY, INVARIANT, SPLIT, FORK,
 use Rattle.graph.specs.Below.{total-within}
 use Rattle.graph.specs.Graph.{nodeCount, Node, nodeAt, hasInput, wireOn, inputOf, outputCount}
 use Rattle.graph.specs.Accepted.{Row, Accepted, accepted, node-in-range}
-use Rattle.table.specs.Rows.{kindOf, word, size, INPUT}
+use Rattle.table.specs.Rows.{kindAt, word, size, INPUT}
 use Rattle.structure.specs.Structure.{passing-table-has-structure}
 use Rattle.lowered.specs.Gathered.{those, each}
 use Rattle.lowered.specs.Roles.{result}
@@ -120,9 +120,9 @@ module _ (t : List ℕ) (checked : checkAnswer t .number ≡ 0) (words : (k : �
   start-limited i r h =
       let S = passing-table-has-structure t (number-0-is-no-refusal t (passed-check t checked)) in
       let m = those-from (isStart t) (size t) r (there (those (isStart t) (size t)) i r h) .0 in
-      let f = those-few (λ q. eqb (kindOf t q) INPUT) r in
+      let f = those-few (λ q. eqb (kindAt t q) INPUT) r in
       let s = S .few in
-      go (eqb (kindOf t r) INPUT) (length (those (λ q. eqb (kindOf t q) INPUT) r)) (omega arith)
+      go (eqb (kindAt t r) INPUT) (length (those (λ q. eqb (kindAt t q) INPUT) r)) (omega arith)
     where
       go : (b : Bool) (n : ℕ) → n < wordLimit → Limited (cond b (0 ∷ n ∷ []) (1 ∷ word t r 1 ∷ []))
       go true n l = (omega arith, (l, tt))

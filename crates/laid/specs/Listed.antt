@@ -15,7 +15,7 @@ use native.Mathlib.Omega.{arith}
 use borrow.Author.Tests.{eqb-true}
 use Rattle.step.specs.Kinds.{outputs, Output, out0, out1}
 use Rattle.graph.specs.Graph.{outputPlace}
-use Rattle.table.specs.Rows.{kindOf, size}
+use Rattle.table.specs.Rows.{kindAt, size}
 use Rattle.lowered.specs.Gathered.{those, each}
 use Rattle.lowered.specs.Roles.{Role, opNode, stream, gate, guard, copySplit, copyInvariant, carry, argSplit, Wire, start, output}
 use Rattle.lowered.specs.Sources.{carried, isOp, isFor, isArgRow, has}
@@ -178,11 +178,11 @@ module _ (t : List ℕ) where
       record { row = omega arith; value = elim (k .2) [ inl d ↦ (omega arith) | inr d ↦ d ]; there = k .1 }
 
   -- ---- the nodes of each kind of row
-  pub for-roles : (r : ℕ) → kindOf t r ≡ 4 → rowRoles t r ≡ stream r ∷ gate r ∷ guard r ∷ each (copy r) (carriedInto t r)
+  pub for-roles : (r : ℕ) → kindAt t r ≡ 4 → rowRoles t r ≡ stream r ∷ gate r ∷ guard r ∷ each (copy r) (carriedInto t r)
   unfolding rowRoles
   for-roles r k = rw k
 
-  pub arg-roles : (r : ℕ) → kindOf t r ≡ 5 → rowRoles t r ≡ carry r ∷ argSplit r ∷ []
+  pub arg-roles : (r : ℕ) → kindAt t r ≡ 5 → rowRoles t r ≡ carry r ∷ argSplit r ∷ []
   unfolding rowRoles
   arg-roles r k = rw k
 
@@ -190,11 +190,11 @@ module _ (t : List ℕ) where
   unfolding rowRoles
   op-roles r k = rw k
 
-  is-for : (L : ℕ) → isFor t L ≡ true → kindOf t L ≡ 4
-  is-for L e = eqb-true (kindOf t L) 4 e
+  is-for : (L : ℕ) → isFor t L ≡ true → kindAt t L ≡ 4
+  is-for L e = eqb-true (kindAt t L) 4 e
 
-  is-arg : (a : ℕ) → isArgRow t a ≡ true → kindOf t a ≡ 5
-  is-arg a e = eqb-true (kindOf t a) 5 e
+  is-arg : (a : ℕ) → isArgRow t a ≡ true → kindAt t a ≡ 5
+  is-arg a e = eqb-true (kindAt t a) 5 e
 
   in-row : (r : ℕ) (n : Role) (ns : List Role) → rowRoles t r ≡ ns → Among n ns → Among n (rowRoles t r)
   in-row r n ns e h = subst (Among n) (sym e) h

@@ -19,7 +19,7 @@ use borrow.Author.Tests.{eqb-true, eq-eqb, ne-eqb, le-leb, lt-leb, lt-ltb, le-lt
 use lib.Dec.{eqb, leb}
 use Rattle.step.specs.Kinds.{Kind, OP, PICK, outputs, inputSort, operatorSort, Input, in0, in1, in2, Output, out0, out1}
 use Rattle.graph.specs.Graph.{hasInput}
-use Rattle.table.specs.Rows.{kindOf, word, size, operandCount, firstOperand, sortOf, wantedSort, fieldAt, every-other-names-a-word}
+use Rattle.table.specs.Rows.{kindAt, word, size, operandCount, firstOperand, sortOf, wantedSort, fieldAt, every-other-names-a-word}
 use Rattle.table.specs.Scan.{bodyOf, home}
 use Rattle.table.specs.Bodies.{argOf, nextOf}
 use Rattle.structure.specs.Structure.{Structure}
@@ -49,11 +49,11 @@ or-cases true b e = inl refl
 or-cases false b e = inr e
 
 module _ (t : List ℕ) where
-  pub op-kind : (r : ℕ) → isOp t r ≡ true → (kindOf t r ≡ 2) ⊎ (kindOf t r ≡ 3)
+  pub op-kind : (r : ℕ) → isOp t r ≡ true → (kindAt t r ≡ 2) ⊎ (kindAt t r ≡ 3)
   op-kind r e =
-      elim (or-cases (eqb (kindOf t r) 2) (eqb (kindOf t r) 3) e) [
-        | inl k ↦ inl (eqb-true (kindOf t r) 2 k)
-        | inr k ↦ inr (eqb-true (kindOf t r) 3 k)
+      elim (or-cases (eqb (kindAt t r) 2) (eqb (kindAt t r) 3) e) [
+        | inl k ↦ inl (eqb-true (kindAt t r) 2 k)
+        | inr k ↦ inr (eqb-true (kindAt t r) 3 k)
       ]
 
   -- ---- a node takes something exactly on the places of its kind
@@ -97,44 +97,44 @@ module _ (t : List ℕ) where
   result-feed q h = rw h
 
   -- ---- sorts of values
-  sort-by : (v k : ℕ) → kindOf t v ≡ k → (k ≡ 2 → ⊥) → sortOf t v ≡ 0
+  sort-by : (v k : ℕ) → kindAt t v ≡ k → (k ≡ 2 → ⊥) → sortOf t v ≡ 0
   unfolding sortOf
-  sort-by v k e n = rw (ne-eqb (kindOf t v) 2 (λ z. n (sym e ∙ z)))
+  sort-by v k e n = rw (ne-eqb (kindAt t v) 2 (λ z. n (sym e ∙ z)))
 
   -- a value's wire at home, by its row's kind
-  pub home-of-start : (v : ℕ) → kindOf t v ≤ 1 → homeWire t v ≡ start v
+  pub home-of-start : (v : ℕ) → kindAt t v ≤ 1 → homeWire t v ≡ start v
   unfolding homeWire
-  home-of-start v k = rw (le-leb (kindOf t v) 1 k)
+  home-of-start v k = rw (le-leb (kindAt t v) 1 k)
 
-  pub home-of-op : (v : ℕ) → (kindOf t v ≡ 2) ⊎ (kindOf t v ≡ 3) → homeWire t v ≡ output (opNode v) out0
+  pub home-of-op : (v : ℕ) → (kindAt t v ≡ 2) ⊎ (kindAt t v ≡ 3) → homeWire t v ≡ output (opNode v) out0
   unfolding homeWire
   home-of-op v (inl k) = rw k
   home-of-op v (inr k) = rw k
 
-  pub home-of-for : (v : ℕ) → kindOf t v ≡ 4 → homeWire t v ≡ output (gate v) out0
+  pub home-of-for : (v : ℕ) → kindAt t v ≡ 4 → homeWire t v ≡ output (gate v) out0
   unfolding homeWire
   home-of-for v k = rw k
 
-  pub home-of-arg : (v : ℕ) → kindOf t v ≡ 5 → homeWire t v ≡ output (argSplit v) out0
+  pub home-of-arg : (v : ℕ) → kindAt t v ≡ 5 → homeWire t v ≡ output (argSplit v) out0
   unfolding homeWire
   home-of-arg v k = rw k
 
-  pub home-of-next : (v : ℕ) → kindOf t v ≡ 6 → homeWire t v ≡ output (argSplit (argOf t v)) out1
+  pub home-of-next : (v : ℕ) → kindAt t v ≡ 6 → homeWire t v ≡ output (argSplit (argOf t v)) out1
   unfolding homeWire
   home-of-next v k = rw k
 
-  op-sort : (v : ℕ) → kindOf t v ≡ 2 → wireSort t (output (opNode v) out0) ≡ sortOf t v
+  op-sort : (v : ℕ) → kindAt t v ≡ 2 → wireSort t (output (opNode v) out0) ≡ sortOf t v
   unfolding sortOf
   op-sort v k = rw k (operator-sort (word t v 1))
 
-  pick-sort : (v : ℕ) → kindOf t v ≡ 3 → wireSort t (output (opNode v) out0) ≡ sortOf t v
+  pick-sort : (v : ℕ) → kindAt t v ≡ 3 → wireSort t (output (opNode v) out0) ≡ sortOf t v
   unfolding sortOf
   pick-sort v k = rw k
 
-  home-sort : (v : ℕ) → kindOf t v ≤ 6 → wireSort t (homeWire t v) ≡ sortOf t v
-  home-sort v l = go (kindOf t v) refl l
+  home-sort : (v : ℕ) → kindAt t v ≤ 6 → wireSort t (homeWire t v) ≡ sortOf t v
+  home-sort v l = go (kindAt t v) refl l
     where
-      go : (k : ℕ) → kindOf t v ≡ k → k ≤ 6 → wireSort t (homeWire t v) ≡ sortOf t v
+      go : (k : ℕ) → kindAt t v ≡ k → k ≤ 6 → wireSort t (homeWire t v) ≡ sortOf t v
       go zero e h = ap (wireSort t) (home-of-start v (omega arith)) ∙ sym (sort-by v 0 e (λ z. omega arith))
       go (suc zero) e h = ap (wireSort t) (home-of-start v (omega arith)) ∙ sym (sort-by v 1 e (λ z. omega arith))
       go (suc (suc zero)) e h = ap (wireSort t) (home-of-op v (inl e)) ∙ op-sort v e
@@ -145,19 +145,19 @@ module _ (t : List ℕ) where
       go (suc (suc (suc (suc (suc (suc (suc k))))))) e h = absurd (omega arith)
 
   -- ---- OP and PICK nodes
-  pub op-is-OP : (r : ℕ) → kindOf t r ≡ 2 → roleKind t (opNode r) ≡ OP
+  pub op-is-OP : (r : ℕ) → kindAt t r ≡ 2 → roleKind t (opNode r) ≡ OP
   op-is-OP r k = rw k
 
-  pub pick-is-PICK : (r : ℕ) → kindOf t r ≡ 3 → roleKind t (opNode r) ≡ PICK
+  pub pick-is-PICK : (r : ℕ) → kindAt t r ≡ 3 → roleKind t (opNode r) ≡ PICK
   pick-is-PICK r k = rw k
 
-  op-takes-two : (r : ℕ) → kindOf t r ≡ 2 → roleFeed t (opNode r) in2 ≡ nothing
+  op-takes-two : (r : ℕ) → kindAt t r ≡ 2 → roleFeed t (opNode r) in2 ≡ nothing
   op-takes-two r k = rw k
 
-  pick-takes-three : (r : ℕ) → kindOf t r ≡ 3 → roleFeed t (opNode r) in2 ≡ named t r 2
-  pick-takes-three r k = go (kindOf t r) k refl
+  pick-takes-three : (r : ℕ) → kindAt t r ≡ 3 → roleFeed t (opNode r) in2 ≡ named t r 2
+  pick-takes-three r k = go (kindAt t r) k refl
     where
-      go : (n : ℕ) → n ≡ 3 → kindOf t r ≡ n → cond (eqb n 3) (named t r 2) nothing ≡ named t r 2
+      go : (n : ℕ) → n ≡ 3 → kindAt t r ≡ n → cond (eqb n 3) (named t r 2) nothing ≡ named t r 2
       go n e q = rw e
 
 module _ (t : List ℕ) (S : Structure t) where
@@ -165,37 +165,37 @@ module _ (t : List ℕ) (S : Structure t) where
   real-row : (n : Role) (r : ℕ) → r < size t → roleRow n ≡ r → roleValue n ≡ r → has t n ≡ true → Real t n
   real-row n r l a b h = record { row = omega arith; value = omega arith; there = h }
 
-  home-made : (v : ℕ) → v < size t → kindOf t v ≤ 6 → Made t (homeWire t v)
-  home-made v less l = go (kindOf t v) refl l
+  home-made : (v : ℕ) → v < size t → kindAt t v ≤ 6 → Made t (homeWire t v)
+  home-made v less l = go (kindAt t v) refl l
     where
-      of-start : kindOf t v ≤ 1 → Made t (homeWire t v)
-      of-start k = subst (Made t) (sym (home-of-start t v k)) (less, le-leb (kindOf t v) 1 k)
+      of-start : kindAt t v ≤ 1 → Made t (homeWire t v)
+      of-start k = subst (Made t) (sym (home-of-start t v k)) (less, le-leb (kindAt t v) 1 k)
 
-      of-op : (kindOf t v ≡ 2) ⊎ (kindOf t v ≡ 3) → Made t (homeWire t v)
+      of-op : (kindAt t v ≡ 2) ⊎ (kindAt t v ≡ 3) → Made t (homeWire t v)
       of-op k = subst (Made t) (sym (home-of-op t v k)) (real-row (opNode v) v less refl refl (is-op k), one k)
         where
-          is-op : (kindOf t v ≡ 2) ⊎ (kindOf t v ≡ 3) → isOp t v ≡ true
+          is-op : (kindAt t v ≡ 2) ⊎ (kindAt t v ≡ 3) → isOp t v ≡ true
           is-op (inl e) = rw e
           is-op (inr e) = rw e
 
-          one : (kindOf t v ≡ 2) ⊎ (kindOf t v ≡ 3) → 0 < outputs (roleKind t (opNode v))
+          one : (kindAt t v ≡ 2) ⊎ (kindAt t v ≡ 3) → 0 < outputs (roleKind t (opNode v))
           one (inl e) = rw (op-is-OP t v e) (omega arith)
           one (inr e) = rw (pick-is-PICK t v e) (omega arith)
 
-      go : (k : ℕ) → kindOf t v ≡ k → k ≤ 6 → Made t (homeWire t v)
+      go : (k : ℕ) → kindAt t v ≡ k → k ≤ 6 → Made t (homeWire t v)
       go zero e h = of-start (omega arith)
       go (suc zero) e h = of-start (omega arith)
       go (suc (suc zero)) e h = of-op (inl e)
       go (suc (suc (suc zero))) e h = of-op (inr e)
-      go (suc (suc (suc (suc zero)))) e h = subst (Made t) (sym (home-of-for t v e)) (real-row (gate v) v less refl refl (eq-eqb (kindOf t v) 4 e), omega arith)
-      go (suc (suc (suc (suc (suc zero))))) e h = subst (Made t) (sym (home-of-arg t v e)) (real-row (argSplit v) v less refl refl (eq-eqb (kindOf t v) 5 e), omega arith)
+      go (suc (suc (suc (suc zero)))) e h = subst (Made t) (sym (home-of-for t v e)) (real-row (gate v) v less refl refl (eq-eqb (kindAt t v) 4 e), omega arith)
+      go (suc (suc (suc (suc (suc zero))))) e h = subst (Made t) (sym (home-of-arg t v e)) (real-row (argSplit v) v less refl refl (eq-eqb (kindAt t v) 5 e), omega arith)
       go (suc (suc (suc (suc (suc (suc zero)))))) e h =
           let a = S .next-row v less e .arg-kind in
           let l = in-table t S (argOf t v) (λ z. omega arith) in
-          subst (Made t) (sym (home-of-next t v e)) (real-row (argSplit (argOf t v)) (argOf t v) l refl refl (eq-eqb (kindOf t (argOf t v)) 5 a), omega arith)
+          subst (Made t) (sym (home-of-next t v e)) (real-row (argSplit (argOf t v)) (argOf t v) l refl refl (eq-eqb (kindAt t (argOf t v)) 5 a), omega arith)
       go (suc (suc (suc (suc (suc (suc (suc k))))))) e h = absurd (omega arith)
 
-  value-made : (v B : ℕ) → v < size t → kindOf t v ≤ 6 → Reached t S v B → Made t (valueWire t v B)
+  value-made : (v B : ℕ) → v < size t → kindAt t v ≤ 6 → Reached t S v B → Made t (valueWire t v B)
   unfolding valueWire
   value-made v B less l (inl e) = rw (eq-eqb (home t v) B e) (home-made v less l)
   value-made v B less l (inr c) = go (eqb (home t v) B)
@@ -203,9 +203,9 @@ module _ (t : List ℕ) (S : Structure t) where
       go : (b : Bool) → Made t (cond b (homeWire t v) (output (copyInvariant B v) out0))
       go true = home-made v less l
       go false =
-          (record { row = in-table t S B (λ z. omega (arith, c .1)); value = less; there = and-true (isFor t B) (carried t B v) (eq-eqb (kindOf t B) 4 (c .1)) (c .0) }, omega arith)
+          (record { row = in-table t S B (λ z. omega (arith, c .1)); value = less; there = and-true (isFor t B) (carried t B v) (eq-eqb (kindAt t B) 4 (c .1)) (c .0) }, omega arith)
 
-  value-sort : (v B : ℕ) → kindOf t v ≤ 6 → wireSort t (valueWire t v B) ≡ sortOf t v
+  value-sort : (v B : ℕ) → kindAt t v ≤ 6 → wireSort t (valueWire t v B) ≡ sortOf t v
   unfolding valueWire
   value-sort v B l = go (eqb (home t v) B)
     where
@@ -215,88 +215,88 @@ module _ (t : List ℕ) (S : Structure t) where
 
   -- ---- what inputs take
   abbrev pub Fine : Feed → ℕ → Type 0
-  Fine (value v B) s = (v < size t) × (kindOf t v ≤ 6) × Reached t S v B × (sortOf t v ≡ s)
+  Fine (value v B) s = (v < size t) × (kindAt t v ≤ 6) × Reached t S v B × (sortOf t v ≡ s)
   Fine (inner w) s = Made t w × (wireSort t w ≡ s)
   Fine nothing s = Unit {0}
 
-  named-fine : (r j s : ℕ) → r < size t → j < operandCount (kindOf t r) → wantedSort (kindOf t r) (firstOperand (kindOf t r) + j) ≡ s → Fine (named t r j) s
+  named-fine : (r j s : ℕ) → r < size t → j < operandCount (kindAt t r) → wantedSort (kindAt t r) (firstOperand (kindAt t r) + j) ≡ s → Fine (named t r j) s
   named-fine r j s lr lj e =
       let o = S .operands r j lr lj in
       let b = o .before in
       (omega arith, o .is-value, operand-is-reached t S r j lr lj, o .sort ∙ e)
 
-  loop-made : (n : Role) (o : Output) (L : ℕ) → L < size t → kindOf t L ≡ 4 → (n ≡ stream L) ⊎ ((n ≡ gate L) ⊎ (n ≡ guard L)) → Real t n
-  loop-made n o L l k (inl e) = subst (Real t) (sym e) (record { row = l; value = l; there = eq-eqb (kindOf t L) 4 k })
-  loop-made n o L l k (inr (inl e)) = subst (Real t) (sym e) (record { row = l; value = l; there = eq-eqb (kindOf t L) 4 k })
-  loop-made n o L l k (inr (inr e)) = subst (Real t) (sym e) (record { row = l; value = l; there = eq-eqb (kindOf t L) 4 k })
+  loop-made : (n : Role) (o : Output) (L : ℕ) → L < size t → kindAt t L ≡ 4 → (n ≡ stream L) ⊎ ((n ≡ gate L) ⊎ (n ≡ guard L)) → Real t n
+  loop-made n o L l k (inl e) = subst (Real t) (sym e) (record { row = l; value = l; there = eq-eqb (kindAt t L) 4 k })
+  loop-made n o L l k (inr (inl e)) = subst (Real t) (sym e) (record { row = l; value = l; there = eq-eqb (kindAt t L) 4 k })
+  loop-made n o L l k (inr (inr e)) = subst (Real t) (sym e) (record { row = l; value = l; there = eq-eqb (kindAt t L) 4 k })
 
-  stream-made : (L : ℕ) (o : Output) → L < size t → kindOf t L ≡ 4 → Made t (output (stream L) o)
+  stream-made : (L : ℕ) (o : Output) → L < size t → kindAt t L ≡ 4 → Made t (output (stream L) o)
   stream-made L out0 l k = (loop-made (stream L) out0 L l k (inl refl), omega arith)
   stream-made L out1 l k = (loop-made (stream L) out1 L l k (inl refl), omega arith)
 
-  gate-made : (L : ℕ) (o : Output) → L < size t → kindOf t L ≡ 4 → Made t (output (gate L) o)
+  gate-made : (L : ℕ) (o : Output) → L < size t → kindAt t L ≡ 4 → Made t (output (gate L) o)
   gate-made L out0 l k = (loop-made (gate L) out0 L l k (inr (inl refl)), omega arith)
   gate-made L out1 l k = (loop-made (gate L) out1 L l k (inr (inl refl)), omega arith)
 
   -- how many operands, and their sorts, by kind
-  two-of-op : (r : ℕ) → kindOf t r ≡ 2 → operandCount (kindOf t r) ≡ 2
+  two-of-op : (r : ℕ) → kindAt t r ≡ 2 → operandCount (kindAt t r) ≡ 2
   unfolding operandCount
   two-of-op r k = rw k
 
-  three-of-pick : (r : ℕ) → kindOf t r ≡ 3 → operandCount (kindOf t r) ≡ 3
+  three-of-pick : (r : ℕ) → kindAt t r ≡ 3 → operandCount (kindAt t r) ≡ 3
   unfolding operandCount
   three-of-pick r k = rw k
 
-  three-of-for : (r : ℕ) → kindOf t r ≡ 4 → operandCount (kindOf t r) ≡ 3
+  three-of-for : (r : ℕ) → kindAt t r ≡ 4 → operandCount (kindAt t r) ≡ 3
   unfolding operandCount
   three-of-for r k = rw k
 
-  one-of : (r k : ℕ) → kindOf t r ≡ k → (k ≡ 5) ⊎ ((k ≡ 6) ⊎ (k ≡ 8)) → operandCount (kindOf t r) ≡ 1
+  one-of : (r k : ℕ) → kindAt t r ≡ k → (k ≡ 5) ⊎ ((k ≡ 6) ⊎ (k ≡ 8)) → operandCount (kindAt t r) ≡ 1
   unfolding operandCount
   one-of r k e (inl h) = rw (e, h)
   one-of r k e (inr (inl h)) = rw (e, h)
   one-of r k e (inr (inr h)) = rw (e, h)
 
-  word-wanted : (r j k : ℕ) → kindOf t r ≡ k → (k ≡ 3 → ⊥) → wantedSort (kindOf t r) (firstOperand (kindOf t r) + j) ≡ 0
-  word-wanted r j k e n = every-other-names-a-word (kindOf t r) (firstOperand (kindOf t r) + j) (λ z q. n (sym e ∙ z))
+  word-wanted : (r j k : ℕ) → kindAt t r ≡ k → (k ≡ 3 → ⊥) → wantedSort (kindAt t r) (firstOperand (kindAt t r) + j) ≡ 0
+  word-wanted r j k e n = every-other-names-a-word (kindAt t r) (firstOperand (kindAt t r) + j) (λ z q. n (sym e ∙ z))
 
-  pick-wanted : (r j s : ℕ) → kindOf t r ≡ 3 → wantedSort 3 (1 + j) ≡ s → wantedSort (kindOf t r) (firstOperand (kindOf t r) + j) ≡ s
+  pick-wanted : (r j s : ℕ) → kindAt t r ≡ 3 → wantedSort 3 (1 + j) ≡ s → wantedSort (kindAt t r) (firstOperand (kindAt t r) + j) ≡ s
   unfolding firstOperand
   pick-wanted r j s k e = rw k e
 
-  op-fine : (r j : ℕ) → r < size t → kindOf t r ≡ 2 → j < 2 → Fine (named t r j) 0
+  op-fine : (r j : ℕ) → r < size t → kindAt t r ≡ 2 → j < 2 → Fine (named t r j) 0
   op-fine r j l k h = named-fine r j 0 l (let c = two-of-op r k in omega arith) (word-wanted r j 2 k (λ z. omega arith))
 
-  pick-fine : (r j s : ℕ) → r < size t → kindOf t r ≡ 3 → j < 3 → wantedSort 3 (1 + j) ≡ s → Fine (named t r j) s
+  pick-fine : (r j s : ℕ) → r < size t → kindAt t r ≡ 3 → j < 3 → wantedSort 3 (1 + j) ≡ s → Fine (named t r j) s
   pick-fine r j s l k h e = named-fine r j s l (let c = three-of-pick r k in omega arith) (pick-wanted r j s k e)
 
-  for-fine : (L j : ℕ) → L < size t → kindOf t L ≡ 4 → j < 3 → Fine (named t L j) 0
+  for-fine : (L j : ℕ) → L < size t → kindAt t L ≡ 4 → j < 3 → Fine (named t L j) 0
   for-fine L j l k h = named-fine L j 0 l (let c = three-of-for L k in omega arith) (word-wanted L j 4 k (λ z. omega arith))
 
-  one-fine : (r k : ℕ) → r < size t → kindOf t r ≡ k → (k ≡ 5) ⊎ ((k ≡ 6) ⊎ (k ≡ 8)) → (k ≡ 3 → ⊥) → Fine (named t r 0) 0
+  one-fine : (r k : ℕ) → r < size t → kindAt t r ≡ k → (k ≡ 5) ⊎ ((k ≡ 6) ⊎ (k ≡ 8)) → (k ≡ 3 → ⊥) → Fine (named t r 0) 0
   one-fine r k l e h n = named-fine r 0 0 l (let c = one-of r k e h in omega arith) (word-wanted r 0 k e n)
 
   condition-sort : (c : ℕ) → operatorSort (3 + c) ≡ 1
   condition-sort c = rw (le-ltb (3 + c) 3 (omega arith))
 
-  guard-made : (L : ℕ) → L < size t → kindOf t L ≡ 4 → Made t (output (guard L) out0)
+  guard-made : (L : ℕ) → L < size t → kindAt t L ≡ 4 → Made t (output (guard L) out0)
   guard-made L l k = (loop-made (guard L) out0 L l k (inr (inr refl)), omega arith)
 
-  copy-for : (L v : ℕ) → isFor t L && carried t L v ≡ true → (kindOf t L ≡ 4) × (carried t L v ≡ true)
-  copy-for L v h = let b = and-both (isFor t L) (carried t L v) h in (eqb-true (kindOf t L) 4 (b .0), b .1)
+  copy-for : (L v : ℕ) → isFor t L && carried t L v ≡ true → (kindAt t L ≡ 4) × (carried t L v ≡ true)
+  copy-for L v h = let b = and-both (isFor t L) (carried t L v) h in (eqb-true (kindAt t L) 4 (b .0), b .1)
 
-  carried-value : (L v : ℕ) → carried t L v ≡ true → kindOf t v ≤ 6
+  carried-value : (L v : ℕ) → carried t L v ≡ true → kindAt t v ≤ 6
   carried-value L v c =
       let C = carried-by t L v c in
-      subst (λ (x : ℕ). kindOf t x ≤ 6) (C .is) (S .operands (C .row) (C .place) (C .row-below) (C .place-below) .is-value)
+      subst (λ (x : ℕ). kindAt t x ≤ 6) (C .is) (S .operands (C .row) (C .place) (C .row-below) (C .place-below) .is-value)
 
-  arg-loop : (a : ℕ) → a < size t → isArgRow t a ≡ true → (bodyOf t a < size t) × (kindOf t (bodyOf t a) ≡ 4)
+  arg-loop : (a : ℕ) → a < size t → isArgRow t a ≡ true → (bodyOf t a < size t) × (kindAt t (bodyOf t a) ≡ 4)
   arg-loop a l e =
-      let r = S .arg-row a l (eqb-true (kindOf t a) 5 e) in
+      let r = S .arg-row a l (eqb-true (kindAt t a) 5 e) in
       let low = r .low in
       (omega arith, r .loop-for)
 
-  op-node-fine : (r : ℕ) (k : Input) → r < size t → kindOf t r ≡ 2 → Fine (roleFeed t (opNode r) k) (inputSort (roleKind t (opNode r)) 0 k)
+  op-node-fine : (r : ℕ) (k : Input) → r < size t → kindAt t r ≡ 2 → Fine (roleFeed t (opNode r) k) (inputSort (roleKind t (opNode r)) 0 k)
   op-node-fine r k l e = subst (λ (κ : Kind). Fine (roleFeed t (opNode r) k) (inputSort κ 0 k)) (sym (op-is-OP t r e)) (go k)
     where
       go : (k : Input) → Fine (roleFeed t (opNode r) k) (inputSort OP 0 k)
@@ -304,7 +304,7 @@ module _ (t : List ℕ) (S : Structure t) where
       go in1 = op-fine r 1 l e (omega arith)
       go in2 = subst (λ (f : Feed). Fine f 0) (sym (op-takes-two t r e)) tt
 
-  pick-node-fine : (r : ℕ) (k : Input) → r < size t → kindOf t r ≡ 3 → Fine (roleFeed t (opNode r) k) (inputSort (roleKind t (opNode r)) 0 k)
+  pick-node-fine : (r : ℕ) (k : Input) → r < size t → kindAt t r ≡ 3 → Fine (roleFeed t (opNode r) k) (inputSort (roleKind t (opNode r)) 0 k)
   unfolding fieldAt wantedSort
   pick-node-fine r k l e = subst (λ (κ : Kind). Fine (roleFeed t (opNode r) k) (inputSort κ 0 k)) (sym (pick-is-PICK t r e)) (go k)
     where
@@ -315,14 +315,14 @@ module _ (t : List ℕ) (S : Structure t) where
 
   pub node-input-is-fine : (n : Role) (k : Input) → Real t n → Fine (roleFeed t n k) (inputSort (roleKind t n) (roleSort t n) k)
   node-input-is-fine (opNode r) k l = elim (op-kind t r (l .there)) [ inl e ↦ op-node-fine r k (l .row) e | inr e ↦ pick-node-fine r k (l .row) e ]
-  node-input-is-fine (stream L) in0 l = for-fine L 0 (l .row) (eqb-true (kindOf t L) 4 (l .there)) (omega arith)
-  node-input-is-fine (stream L) in1 l = for-fine L 1 (l .row) (eqb-true (kindOf t L) 4 (l .there)) (omega arith)
-  node-input-is-fine (stream L) in2 l = for-fine L 2 (l .row) (eqb-true (kindOf t L) 4 (l .there)) (omega arith)
-  node-input-is-fine (gate L) in0 l = (stream-made L out0 (l .row) (eqb-true (kindOf t L) 4 (l .there)), refl)
-  node-input-is-fine (gate L) in1 l = (stream-made L out1 (l .row) (eqb-true (kindOf t L) 4 (l .there)), refl)
+  node-input-is-fine (stream L) in0 l = for-fine L 0 (l .row) (eqb-true (kindAt t L) 4 (l .there)) (omega arith)
+  node-input-is-fine (stream L) in1 l = for-fine L 1 (l .row) (eqb-true (kindAt t L) 4 (l .there)) (omega arith)
+  node-input-is-fine (stream L) in2 l = for-fine L 2 (l .row) (eqb-true (kindAt t L) 4 (l .there)) (omega arith)
+  node-input-is-fine (gate L) in0 l = (stream-made L out0 (l .row) (eqb-true (kindAt t L) 4 (l .there)), refl)
+  node-input-is-fine (gate L) in1 l = (stream-made L out1 (l .row) (eqb-true (kindAt t L) 4 (l .there)), refl)
   node-input-is-fine (gate L) in2 l = tt
-  node-input-is-fine (guard L) in0 l = for-fine L 0 (l .row) (eqb-true (kindOf t L) 4 (l .there)) (omega arith)
-  node-input-is-fine (guard L) in1 l = for-fine L 2 (l .row) (eqb-true (kindOf t L) 4 (l .there)) (omega arith)
+  node-input-is-fine (guard L) in0 l = for-fine L 0 (l .row) (eqb-true (kindAt t L) 4 (l .there)) (omega arith)
+  node-input-is-fine (guard L) in1 l = for-fine L 2 (l .row) (eqb-true (kindAt t L) 4 (l .there)) (omega arith)
   node-input-is-fine (guard L) in2 l = tt
   node-input-is-fine (copySplit L v) in0 l = (guard-made L (l .row) (copy-for L v (l .there) .0), condition-sort (word t L 5))
   node-input-is-fine (copySplit L v) in1 l = let c = copy-for L v (l .there) in (l .value, carried-value L v (c .1), copy-is-reached t S L v (l .row) (c .0) (c .1), refl)
@@ -331,16 +331,16 @@ module _ (t : List ℕ) (S : Structure t) where
   node-input-is-fine (copyInvariant L v) in1 l = ((record { row = l .row; value = l .value; there = l .there }, omega arith), refl)
   node-input-is-fine (copyInvariant L v) in2 l = tt
   node-input-is-fine (carry a) in0 l = let q = arg-loop a (l .row) (l .there) in (stream-made (bodyOf t a) out1 (q .0) (q .1), refl)
-  node-input-is-fine (carry a) in1 l = one-fine a 5 (l .row) (eqb-true (kindOf t a) 5 (l .there)) (inl refl) (λ z. omega arith)
+  node-input-is-fine (carry a) in1 l = one-fine a 5 (l .row) (eqb-true (kindAt t a) 5 (l .there)) (inl refl) (λ z. omega arith)
   node-input-is-fine (carry a) in2 l =
-      let x = S .arg-row a (l .row) (eqb-true (kindOf t a) 5 (l .there)) .next-kind in
+      let x = S .arg-row a (l .row) (eqb-true (kindAt t a) 5 (l .there)) .next-kind in
       one-fine (nextOf t a) 6 (in-table t S (nextOf t a) (λ z. omega arith)) x (inr (inl refl)) (λ z. omega arith)
   node-input-is-fine (argSplit a) in0 l = let q = arg-loop a (l .row) (l .there) in (stream-made (bodyOf t a) out1 (q .0) (q .1), refl)
   node-input-is-fine (argSplit a) in1 l = ((record { row = l .row; value = l .value; there = l .there }, omega arith), refl)
   node-input-is-fine (argSplit a) in2 l = tt
 
   pub result-is-fine : (q : ℕ) → q < size t → isOut t q ≡ true → Fine (named t q 0) 0
-  result-is-fine q l e = one-fine q 8 l (eqb-true (kindOf t q) 8 e) (inr (inr refl)) (λ z. omega arith)
+  result-is-fine q l e = one-fine q 8 l (eqb-true (kindAt t q) 8 e) (inr (inr refl)) (λ z. omega arith)
 
   -- ---- so every source is made, and of its sort
   pub fine-is-made : (f : Feed) (s : ℕ) (w : Wire) → Fine f s → wireOf t f ≡ some w → Made t w × (wireSort t w ≡ s)

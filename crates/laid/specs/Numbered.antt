@@ -21,7 +21,7 @@ use Rattle.word.specs.Words.{pick}
 use Rattle.step.specs.Kinds.{Kind, STREAM, GATE, CARRY, INVARIANT, SPLIT, OP, PICK, FORK, DRAIN, outputs, codes, ownSorts, inputSort, Input, in0, in1, in2, Output, out0, out1, output-sort-small}
 use Rattle.graph.specs.Below.{total}
 use Rattle.graph.specs.Graph.{absent, Node, hasInput, wireOn, outputCount, sortAt}
-use Rattle.table.specs.Rows.{kindOf, word, sortOf}
+use Rattle.table.specs.Rows.{kindAt, word, sortOf}
 use Rattle.structure.specs.Structure.{Structure}
 use Rattle.lowered.specs.Gathered.{each}
 use Rattle.lowered.specs.Roles.{Role, opNode, stream, gate, guard, copySplit, copyInvariant, carry, argSplit, Wire, start, output, Use, into}
@@ -93,7 +93,7 @@ sort-small false c = omega arith
 
 flag-or-word : (t : List ℕ) (v : ℕ) → sortOf t v < 2
 unfolding sortOf
-flag-or-word t v = sort-small (eqb (kindOf t v) 2) (leb 3 (word t v 1))
+flag-or-word t v = sort-small (eqb (kindAt t v) 2) (leb 3 (word t v 1))
 
 role-sort-small : (t : List ℕ) (n : Role) → roleSort t n < 2
 role-sort-small t (opNode r) = omega arith
@@ -125,9 +125,9 @@ module _ (t : List ℕ) (S : Structure t) where
         | inl e ↦ (let c = S .op-codes r (l .row) e in rw e (omega arith))
         | inr e ↦ rw e (omega arith)
       ]
-  code-right (stream L) l = let c = S .loop-codes L (l .row) (eqb-true (kindOf t L) 4 (l .there)) in let u = c .0 in let d = c .1 in omega arith
+  code-right (stream L) l = let c = S .loop-codes L (l .row) (eqb-true (kindAt t L) 4 (l .there)) in let u = c .0 in let d = c .1 in omega arith
   code-right (gate L) l = omega arith
-  code-right (guard L) l = let c = S .loop-codes L (l .row) (eqb-true (kindOf t L) 4 (l .there)) in let d = c .1 in omega arith
+  code-right (guard L) l = let c = S .loop-codes L (l .row) (eqb-true (kindAt t L) 4 (l .there)) in let d = c .1 in omega arith
   code-right (copySplit L v) l = omega arith
   code-right (copyInvariant L v) l = omega arith
   code-right (carry a) l = omega arith

@@ -17,7 +17,7 @@ use native.Mathlib.Decide.{ℕ-discrete, decLt}
 use borrow.Author.Tests.{eqb-true, eqb-false, eq-eqb, ne-eqb}
 use lib.Dec.{eqb}
 use lib.ListN.{List·getD-eq-default}
-use Rattle.table.specs.Rows.{kindOf, size, operandCount}
+use Rattle.table.specs.Rows.{kindAt, size, operandCount}
 use Rattle.table.specs.Scan.{stackAt, bodyOf, reads, home, holds}
 use Rattle.table.specs.Bodies.{operand, endOf}
 use Rattle.structure.specs.Spans.{open-is-for, Encloses, same, inside as within, outermost}
@@ -99,7 +99,7 @@ module _ (t : List ℕ) where
     pub row : ℕ
     pub place : ℕ
     pub row-below : row < size t
-    pub place-below : place < operandCount (kindOf t row)
+    pub place-below : place < operandCount (kindAt t row)
     pub is : operand t row place ≡ v
     pub deep : inside t L (reads t row) ≡ true
 
@@ -110,7 +110,7 @@ module _ (t : List ℕ) where
       let o = outside-is L (home t v) (p .0) in
       let r = some-from (λ r. inside t L (reads t r) && names t r v) (size t) (p .1) in
       let q = and-both (inside t L (reads t (r .0))) (names t (r .0) v) (r .2) in
-      let j = some-from (λ j. eqb (operand t (r .0) j) v) (operandCount (kindOf t (r .0))) (q .1) in
+      let j = some-from (λ j. eqb (operand t (r .0) j) v) (operandCount (kindAt t (r .0))) (q .1) in
       record {
         away = o .0;
         unheld = o .1;
@@ -122,45 +122,45 @@ module _ (t : List ℕ) where
         deep = q .0;
       }
 
-  pub carried-is : (L v r j : ℕ) → home t v ≢ L → holds L (stackAt t (home t v)) ≡ false → r < size t → j < operandCount (kindOf t r) → operand t r j ≡ v
+  pub carried-is : (L v r j : ℕ) → home t v ≢ L → holds L (stackAt t (home t v)) ≡ false → r < size t → j < operandCount (kindAt t r) → operand t r j ≡ v
       → inside t L (reads t r) ≡ true → carried t L v ≡ true
   unfolding carried names
   carried-is L v r j n h lr lj e i =
       and-true (not (inside t L (home t v))) (some? (λ r. inside t L (reads t r) && names t r v) (size t)) (outside-by L (home t v) n h)
       (some-has (λ r. inside t L (reads t r) && names t r v) (size t) r lr
-      (and-true (inside t L (reads t r)) (names t r v) i (some-has (λ j. eqb (operand t r j) v) (operandCount (kindOf t r)) j lj (eq-eqb (operand t r j) v e))))
+      (and-true (inside t L (reads t r)) (names t r v) i (some-has (λ j. eqb (operand t r j) v) (operandCount (kindAt t r)) j lj (eq-eqb (operand t r j) v e))))
 
 module _ (t : List ℕ) (S : Structure t) where
   -- words past the end read as 0
-  pub in-table : (r : ℕ) → kindOf t r ≢ 0 → r < size t
+  pub in-table : (r : ℕ) → kindAt t r ≢ 0 → r < size t
   in-table r n =
       elim (decLt r (size t)) [
         | yes p ↦ p
         | no p ↦ absurd (n (List·getD-eq-default t 0 {n = 6 * r} (let q = over r (size t) p in omega (arith, S .words))))
       ]
 
-  pub reads-loop : (r : ℕ) → r < size t → reads t r ≢ size t → (kindOf t (reads t r) ≡ 4) × (reads t r < size t)
-  reads-loop r less n = elim (ℕ-discrete (kindOf t r) 5) [ yes k ↦ of-arg k | no k ↦ of-row k ]
+  pub reads-loop : (r : ℕ) → r < size t → reads t r ≢ size t → (kindAt t (reads t r) ≡ 4) × (reads t r < size t)
+  reads-loop r less n = elim (ℕ-discrete (kindAt t r) 5) [ yes k ↦ of-arg k | no k ↦ of-row k ]
     where
-      loop : (q : ℕ) → q < size t → reads t r ≡ bodyOf t q → (kindOf t (reads t r) ≡ 4) × (reads t r < size t)
+      loop : (q : ℕ) → q < size t → reads t r ≡ bodyOf t q → (kindAt t (reads t r) ≡ 4) × (reads t r < size t)
       loop q l e =
           let b = S .body-loop q (omega arith) (λ d. n (e ∙ d)) in
           let low = b .low in
-          (ap (kindOf t) e ∙ b .is-for, omega arith)
+          (ap (kindAt t) e ∙ b .is-for, omega arith)
 
-      of-arg : kindOf t r ≡ 5 → (kindOf t (reads t r) ≡ 4) × (reads t r < size t)
+      of-arg : kindAt t r ≡ 5 → (kindAt t (reads t r) ≡ 4) × (reads t r < size t)
       of-arg k = let a = S .arg-row r less k in let low = a .low in loop (bodyOf t r) (omega arith) (S .arg-reads r less k)
 
-      of-row : kindOf t r ≢ 5 → (kindOf t (reads t r) ≡ 4) × (reads t r < size t)
+      of-row : kindAt t r ≢ 5 → (kindAt t (reads t r) ≡ 4) × (reads t r < size t)
       of-row k = loop r less (S .reads-body r k)
 
   abbrev pub Reached : ℕ → ℕ → Type 0
-  Reached v B = (home t v ≡ B) ⊎ ((carried t B v ≡ true) × (kindOf t B ≡ 4))
+  Reached v B = (home t v ≡ B) ⊎ ((carried t B v ≡ true) × (kindAt t B ≡ 4))
 
   nothing-open : (B : ℕ) → holds B (stackAt t (size t)) ≡ false
   nothing-open B = rw (S .all-shut)
 
-  pub operand-is-reached : (r j : ℕ) → r < size t → j < operandCount (kindOf t r) → Reached (operand t r j) (reads t r)
+  pub operand-is-reached : (r j : ℕ) → r < size t → j < operandCount (kindAt t r) → Reached (operand t r j) (reads t r)
   operand-is-reached r j lr lj = elim (ℕ-discrete (home t v) (reads t r)) [ yes e ↦ inl e | no n ↦ go n (S .operands r j lr lj .at-home) ]
     where
       v : ℕ
@@ -178,7 +178,7 @@ module _ (t : List ℕ) (S : Structure t) where
       go n (outermost e) = into-loop n (λ z. n (e ∙ sym z)) (ap (λ (x : ℕ). holds (reads t r) (stackAt t x)) e ∙ nothing-open (reads t r))
 
   -- what lies in L lies in the loop around L
-  further-out : (L x : ℕ) → L < size t → kindOf t L ≡ 4 → bodyOf t L ≢ size t → inside t L x ≡ true → inside t (bodyOf t L) x ≡ true
+  further-out : (L x : ℕ) → L < size t → kindAt t L ≡ 4 → bodyOf t L ≢ size t → inside t L x ≡ true → inside t (bodyOf t L) x ≡ true
   further-out L x less k n i =
       let b = S .body-loop L (omega arith) n in
       let low = b .low in
@@ -193,7 +193,7 @@ module _ (t : List ℕ) (S : Structure t) where
       ]
 
   -- 'the copy takes from the wire of v in the body around, so its origin is found loop by loop going outward'
-  pub copy-is-reached : (L v : ℕ) → L < size t → kindOf t L ≡ 4 → carried t L v ≡ true → Reached v (reads t L)
+  pub copy-is-reached : (L v : ℕ) → L < size t → kindAt t L ≡ 4 → carried t L v ≡ true → Reached v (reads t L)
   copy-is-reached L v less k c = subst (Reached v) (sym (S .reads-body L (λ z. omega arith))) (elim (ℕ-discrete (home t v) (bodyOf t L)) [ yes e ↦ inl e | no n ↦ go n ])
     where
       C : Carries t L v
@@ -210,7 +210,7 @@ module _ (t : List ℕ) (S : Structure t) where
           )
 
       -- H is a loop around L
-      by-loop : H ≢ bodyOf t L → kindOf t H ≡ 4 → H < L → L ≤ endOf t H → Reached v (bodyOf t L)
+      by-loop : H ≢ bodyOf t L → kindAt t H ≡ 4 → H < L → L ≤ endOf t H → Reached v (bodyOf t L)
       by-loop n kH low high = out (S .body-inmost L H (omega arith) (in-table H (λ z. omega arith)) (record { is-for = kH; low = low; high = high }))
         where
           out : Encloses t H (bodyOf t L) → Reached v (bodyOf t L)
@@ -221,7 +221,7 @@ module _ (t : List ℕ) (S : Structure t) where
               around n (λ z. omega arith) (not-held t (bodyOf t L) H (λ h. let o = open-is-for t H (bodyOf t L) h .0 in omega arith))
           out (outermost e) = absurd (omega arith)
 
-      below-loop : kindOf t H ≡ 4 → H < reads t (C .row) → reads t (C .row) ≤ endOf t H → (H < L) × (L ≤ endOf t H)
+      below-loop : kindAt t H ≡ 4 → H < reads t (C .row) → reads t (C .row) ≤ endOf t H → (H < L) × (L ≤ endOf t H)
       below-loop kH a b =
           elim (inside-cases t L (reads t (C .row)) (C .deep)) [
             | inl e ↦ (omega arith, omega arith)

@@ -12,7 +12,7 @@ use mathlib.Core.Option.{some}
 use native.Mathlib.Omega.{arith}
 use native.Mathlib.Decide.{decLt}
 use lib.ListN.{length, getElem?, length-append}
-use Rattle.table.specs.Rows.{kindOf, size}
+use Rattle.table.specs.Rows.{kindAt, size}
 use Rattle.lowered.specs.Gathered.{gathered, position}
 use Rattle.lowered.specs.Roles.{Role, stream, sameRole}
 use Rattle.lowered.specs.Lower.{rowRoles, roles}
@@ -60,7 +60,7 @@ module _ {A : Type 0} (f : ℕ → List A) where
       ]
 
 -- ---- nodes
-module _ (t : List ℕ) (L : ℕ) (low : L < size t) (is : kindOf t L ≡ 4) where
+module _ (t : List ℕ) (L : ℕ) (low : L < size t) (is : kindAt t L ≡ 4) where
   pub stream-node : position sameRole (stream L) (roles t) ≡ nodeBase t L
   unfolding nodeBase roles
   stream-node = position-is sameRole (stream L) (roles t) (length (gathered (rowRoles t) L)) (roles-once t) (row-first (rowRoles t) (size t) L (stream L) _ low (for-roles t L is))

@@ -15,7 +15,7 @@ use mathlib.Core.List.{List, [], _∷_}
 use native.Mathlib.Omega.{arith}
 use native.Mathlib.Decide.{ℕ-discrete}
 use borrow.Author.Tests.{ne-eqb}
-use Rattle.table.specs.Rows.{kindOf, size, operandCount}
+use Rattle.table.specs.Rows.{kindAt, size, operandCount}
 use Rattle.table.specs.Scan.{Loop, oneArg, oneNext, atHead, after, inner, stackAt, bodyOf, reads, home, holds, outward}
 use Rattle.table.specs.Bodies.{operand}
 use Rattle.table.specs.Right.{TableRight}
@@ -32,11 +32,11 @@ pub body-first : (t : List ℕ) → bodyOf t 0 ≡ size t
 unfolding bodyOf stackAt
 body-first t = refl
 
-pub body-after-for : (t : List ℕ) (r : ℕ) → kindOf t r ≡ 4 → bodyOf t (suc r) ≡ r
+pub body-after-for : (t : List ℕ) (r : ℕ) → kindAt t r ≡ 4 → bodyOf t (suc r) ≡ r
 unfolding bodyOf stackAt after
 body-after-for t r k = rw k
 
-pub body-after-end : (t : List ℕ) → TableRight t → (r : ℕ) → r < size t → kindOf t r ≡ 7 → bodyOf t (suc r) ≡ bodyOf t (bodyOf t r)
+pub body-after-end : (t : List ℕ) → TableRight t → (r : ℕ) → r < size t → kindAt t r ≡ 7 → bodyOf t (suc r) ≡ bodyOf t (bodyOf t r)
 unfolding bodyOf stackAt after
 body-after-end t ok r l k = rw k (go (stackAt t r) refl)
   where
@@ -60,9 +60,9 @@ counted-inner n kind r s a b =
       ]
     ]
 
-pub body-after-other : (t : List ℕ) (r : ℕ) → kindOf t r ≢ 4 → kindOf t r ≢ 7 → bodyOf t (suc r) ≡ bodyOf t r
+pub body-after-other : (t : List ℕ) (r : ℕ) → kindAt t r ≢ 4 → kindAt t r ≢ 7 → bodyOf t (suc r) ≡ bodyOf t r
 unfolding bodyOf stackAt
-body-after-other t r a b = counted-inner (size t) (kindOf t r) r (stackAt t r) a b
+body-after-other t r a b = counted-inner (size t) (kindAt t r) r (stackAt t r) a b
 
 -- ---- the way in
 -- loop L is B, or passed further out; the way stops at the home of v
@@ -76,7 +76,7 @@ walk-stops t v L B e (further n w) = n e
 
 module _ (t : List ℕ) (S : Structure t) where
   -- a body around B that is not B is around the body around B
-  pub out-of : (H B : ℕ) → B < size t → kindOf t B ≡ 4 → H ≢ B → Encloses t H B → Encloses t H (bodyOf t B)
+  pub out-of : (H B : ℕ) → B < size t → kindAt t B ≡ 4 → H ≢ B → Encloses t H B → Encloses t H (bodyOf t B)
   out-of H B l k n (same e) = absurd (n e)
   out-of H B l k n (within kH a b) = S .body-inmost B H (omega arith) (in-table t S H (λ z. omega arith)) (record { is-for = kH; low = a; high = b })
   out-of H B l k n (outermost e) = outermost e
@@ -122,14 +122,14 @@ module _ (t : List ℕ) (S : Structure t) where
   abbrev Passed : ℕ → ℕ → ℕ → Type 0
   Passed v L B = (home t v ≢ L) × (holds L (stackAt t (home t v)) ≡ false) × (inside t L B ≡ true)
 
-  pub around-body : (B : ℕ) → B < size t → (bodyOf t B ≡ size t) ⊎ ((bodyOf t B < size t) × (kindOf t (bodyOf t B) ≡ 4))
+  pub around-body : (B : ℕ) → B < size t → (bodyOf t B ≡ size t) ⊎ ((bodyOf t B < size t) × (kindAt t (bodyOf t B) ≡ 4))
   around-body B l =
       elim (ℕ-discrete (bodyOf t B) (size t)) [
         | yes e ↦ inl e
         | no n ↦ (let b = S .body-loop B (omega arith) n in let low = b .low in inr (omega arith, b .is-for))
       ]
 
-  walk-passes : (v L B : ℕ) → (B ≡ size t) ⊎ ((B < size t) × (kindOf t B ≡ 4)) → Encloses t (home t v) B → Walks t v L B → Passed v L B
+  walk-passes : (v L B : ℕ) → (B ≡ size t) ⊎ ((B < size t) × (kindAt t B ≡ 4)) → Encloses t (home t v) B → Walks t v L B → Passed v L B
   walk-passes v L B q e (here n) = (n, unheld-by (home t v) L n e, inside-at t L)
   walk-passes v L B (inl d) e (further n w) = absurd (n (at-the-rim (home t v) (subst (Encloses t (home t v)) d e) ∙ sym d))
   walk-passes v L B (inr q) e (further n w) =
@@ -143,18 +143,18 @@ module _ (t : List ℕ) (S : Structure t) where
             | inr q ↦ no-both (holds L (stackAt t (bodyOf t B))) q (ap (λ (x : ℕ). holds L (stackAt t x)) d ∙ ap (holds L) (S .all-shut))
           ]
 
-  pub reads-body-or-rim : (r : ℕ) → r < size t → (reads t r ≡ size t) ⊎ ((reads t r < size t) × (kindOf t (reads t r) ≡ 4))
+  pub reads-body-or-rim : (r : ℕ) → r < size t → (reads t r ≡ size t) ⊎ ((reads t r < size t) × (kindAt t (reads t r) ≡ 4))
   reads-body-or-rim r l =
       elim (ℕ-discrete (reads t r) (size t)) [ yes e ↦ inl e | no n ↦ (let b = reads-loop t S r l n in inr (b .1, b .0)) ]
 
   -- every loop that an operand passes carries it
-  pub walked-is-carried : (r j L : ℕ) → r < size t → j < operandCount (kindOf t r) → Walks t (operand t r j) L (reads t r) → carried t L (operand t r j) ≡ true
+  pub walked-is-carried : (r j L : ℕ) → r < size t → j < operandCount (kindAt t r) → Walks t (operand t r j) L (reads t r) → carried t L (operand t r j) ≡ true
   walked-is-carried r j L lr lj w =
       let p = walk-passes (operand t r j) L (reads t r) (reads-body-or-rim r lr) (S .operands r j lr lj .at-home) w in
       carried-is t L (operand t r j) r j (p .0) (p .1) lr lj refl (p .2)
 
   -- and a loop that carries a value is passed by an operand that names it
-  walk-in : (m v L B : ℕ) → B < m → B < size t → kindOf t B ≡ 4 → L < size t → kindOf t L ≡ 4 → home t v ≢ L → holds L (stackAt t (home t v)) ≡ false → Encloses t (home t v) B → inside t L B ≡ true → Walks t v L B
+  walk-in : (m v L B : ℕ) → B < m → B < size t → kindAt t B ≡ 4 → L < size t → kindAt t L ≡ 4 → home t v ≢ L → holds L (stackAt t (home t v)) ≡ false → Encloses t (home t v) B → inside t L B ≡ true → Walks t v L B
   walk-in zero v L B b l k lL kL n h e i = absurd (omega arith)
   walk-in (suc m) v L B b l k lL kL n h e i =
       elim (inside-cases t L B i) [
@@ -164,7 +164,7 @@ module _ (t : List ℕ) (S : Structure t) where
       ]
     where
       deeper : holds L (stackAt t B) ≡ true → home t v ≢ B
-          → (bodyOf t B < m → bodyOf t B < size t → kindOf t (bodyOf t B) ≡ 4 → inside t L (bodyOf t B) ≡ true → Walks t v L (bodyOf t B)) → Walks t v L B
+          → (bodyOf t B < m → bodyOf t B < size t → kindAt t (bodyOf t B) ≡ 4 → inside t L (bodyOf t B) ≡ true → Walks t v L (bodyOf t B)) → Walks t v L B
       deeper q c ih =
           let s = S .loop-span L lL kL in
           let end-in = s .inside in
@@ -184,14 +184,14 @@ module _ (t : List ℕ) (S : Structure t) where
               on (λ z. omega arith) (inside-by t L (bodyOf t B) (s .open-in (bodyOf t B) a b))
           by (outermost d) = absurd (omega arith)
 
-  pub carried-is-walked : (L v : ℕ) → L < size t → kindOf t L ≡ 4 → carried t L v ≡ true
-      → (r : ℕ) × (j : ℕ) × (r < size t) × (j < operandCount (kindOf t r)) × (operand t r j ≡ v) × Walks t v L (reads t r)
+  pub carried-is-walked : (L v : ℕ) → L < size t → kindAt t L ≡ 4 → carried t L v ≡ true
+      → (r : ℕ) × (j : ℕ) × (r < size t) × (j < operandCount (kindAt t r)) × (operand t r j ≡ v) × Walks t v L (reads t r)
   carried-is-walked L v lL kL c =
       let C = carried-by t L v c in
       let e = subst (λ (x : ℕ). Encloses t (home t x) (reads t (C .row))) (C .is) (S .operands (C .row) (C .place) (C .row-below) (C .place-below) .at-home) in
       (C .row, C .place, C .row-below, C .place-below, C .is, at (reads-body-or-rim (C .row) (C .row-below)) (C .deep) (C .away) (C .unheld) e)
     where
-      at : {B : ℕ} → (B ≡ size t) ⊎ ((B < size t) × (kindOf t B ≡ 4)) → inside t L B ≡ true → home t v ≢ L → holds L (stackAt t (home t v)) ≡ false → Encloses t (home t v) B → Walks t v L B
+      at : {B : ℕ} → (B ≡ size t) ⊎ ((B < size t) × (kindAt t B ≡ 4)) → inside t L B ≡ true → home t v ≢ L → holds L (stackAt t (home t v)) ≡ false → Encloses t (home t v) B → Walks t v L B
       at {B} (inr q) i n h e = walk-in (suc B) v L B (omega arith) (q .0) (q .1) lL kL n h e i
       at {B} (inl q) i n h e =
           elim (inside-cases t L B i) [

@@ -15,7 +15,7 @@ use native.Mathlib.Omega.{arith}
 use borrow.Author.Tests.{eqb-true}
 use lib.Dec.{eqb}
 use Rattle.step.specs.Kinds.{Input, in0, in1, in2, out0, out1}
-use Rattle.table.specs.Rows.{kindOf, size}
+use Rattle.table.specs.Rows.{kindAt, size}
 use Rattle.table.specs.Scan.{bodyOf, reads}
 use Rattle.table.specs.Bodies.{operand, nextOf}
 use Rattle.structure.specs.Structure.{Structure}
@@ -56,7 +56,7 @@ argSources t a =
     ∷ (wireBase t (bodyOf t a) + 1) ∷ (wireBase t a + 0) ∷ []
 
 abbrev pub opSources : List ℕ → ℕ → List ℕ
-opSources t r = operandNumber t r 0 ∷ operandNumber t r 1 ∷ cond (eqb (kindOf t r) 3) (operandNumber t r 2 ∷ []) []
+opSources t r = operandNumber t r 0 ∷ operandNumber t r 1 ∷ cond (eqb (kindAt t r) 3) (operandNumber t r 2 ∷ []) []
 
 unfoldable pub rowSources : List ℕ → ℕ → List ℕ
 rowSources t r = cond (isOp t r) (opSources t r) (cond (isFor t r) (forSources t r) (cond (isArgRow t r) (argSources t r) []))
@@ -114,7 +114,7 @@ module _ (t : List ℕ) (S : Structure t) where
   unfolding each
   op-numbers r l h =
       ap rowNumbers (op-roles t r h)
-      ∙ one-role (opNode r) [] (opSources t r) (real-in r (opNode r) _ l (op-roles t r h) (inl refl)) (third (eqb (kindOf t r) 3))
+      ∙ one-role (opNode r) [] (opSources t r) (real-in r (opNode r) _ l (op-roles t r h) (inl refl)) (third (eqb (kindAt t r) 3))
       ∙ nil (opSources t r)
     where
       third : (b : Bool) → operandNumber t r 0 ∷ operandNumber t r 1 ∷ feedNumber (cond b (named t r 2) nothing) ≡ operandNumber t r 0 ∷ operandNumber t r 1 ∷ cond b (operandNumber t r 2 ∷ []) []
@@ -125,7 +125,7 @@ module _ (t : List ℕ) (S : Structure t) where
       nil [] = refl
       nil (x ∷ xs) = ap (λ (l : List ℕ). x ∷ l) (nil xs)
 
-  arg-numbers : (a : ℕ) → a < size t → kindOf t a ≡ 5 → rowNumbers (rowRoles t a) ≡ argSources t a
+  arg-numbers : (a : ℕ) → a < size t → kindAt t a ≡ 5 → rowNumbers (rowRoles t a) ≡ argSources t a
   unfolding each
   arg-numbers a l k =
       let r = S .arg-row a l k in
@@ -137,7 +137,7 @@ module _ (t : List ℕ) (S : Structure t) where
       ∙ ap (λ (xs : List ℕ). (wireBase t (bodyOf t a) + 1) ∷ operandNumber t a 0 ∷ operandNumber t (nextOf t a) 0 ∷ xs)
       (one-role (argSplit a) [] ((wireBase t (bodyOf t a) + 1) ∷ (wireBase t a + 0) ∷ []) (real-in a (argSplit a) _ l (arg-roles t a k) (inr (inl refl))) (ap₂ {C = List ℕ} (λ (n m : ℕ). n ∷ m ∷ []) raw own))
 
-  copies-numbers : (L : ℕ) → L < size t → kindOf t L ≡ 4 → (vs : List ℕ) → ((v : ℕ) → Among v vs → (v < size t) × (carried t L v ≡ true)) → ((n : Role) → Among n (each (copy L) vs) → Real t n)
+  copies-numbers : (L : ℕ) → L < size t → kindAt t L ≡ 4 → (vs : List ℕ) → ((v : ℕ) → Among v vs → (v < size t) × (carried t L v ≡ true)) → ((n : Role) → Among n (each (copy L) vs) → Real t n)
       → rowNumbers (each (copy L) vs) ≡ each (copySources t L) vs
   unfolding each
   copies-numbers L l k [] c h = refl
@@ -155,7 +155,7 @@ module _ (t : List ℕ) (S : Structure t) where
   unfolding carriedInto
   carried-from L v h = those-from (carried t L) (size t) v h
 
-  for-numbers : (L : ℕ) → L < size t → kindOf t L ≡ 4 → rowNumbers (rowRoles t L) ≡ forSources t L
+  for-numbers : (L : ℕ) → L < size t → kindAt t L ≡ 4 → rowNumbers (rowRoles t L) ≡ forSources t L
   unfolding each
   for-numbers L l k =
       let raw = stream-number t L l k in
@@ -179,8 +179,8 @@ module _ (t : List ℕ) (S : Structure t) where
     where
       go : (a b c : Bool) → isOp t r ≡ a → isFor t r ≡ b → isArgRow t r ≡ c → rowNumbers (rowRoles t r) ≡ cond a (opSources t r) (cond b (forSources t r) (cond c (argSources t r) []))
       go true b c p q s = op-numbers r l p
-      go false true c p q s = for-numbers r l (eqb-true (kindOf t r) 4 q)
-      go false false true p q s = arg-numbers r l (eqb-true (kindOf t r) 5 s)
+      go false true c p q s = for-numbers r l (eqb-true (kindAt t r) 4 q)
+      go false false true p q s = arg-numbers r l (eqb-true (kindAt t r) 5 s)
       go false false false p q s = ap rowNumbers (nothing-laid t r p q s) ∙ no-numbers
 
   all-rows : (n : ℕ) → n ≤ size t → rowNumbers (gathered (rowRoles t) n) ≡ gathered (rowSources t) n

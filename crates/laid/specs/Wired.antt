@@ -15,7 +15,7 @@ use native.Mathlib.Omega.{arith}
 use borrow.Author.Tests.{eqb-false}
 use lib.Dec.{eqb, leb}
 use Rattle.step.specs.Kinds.{out0}
-use Rattle.table.specs.Rows.{kindOf, size}
+use Rattle.table.specs.Rows.{kindAt, size}
 use Rattle.table.specs.Scan.{home}
 use Rattle.table.specs.Bodies.{argOf}
 use Rattle.structure.specs.Structure.{Structure}
@@ -29,27 +29,27 @@ use Rattle.laid.specs.Bases.{wireBase, copyPlace, start-number, op-numbe
 -- INPUT, CONST: the row; OP, PICK: the row's first; FOR: the third; ARG: the second; NEXT: the third of its ARG
 unfoldable pub homeNumber : List ℕ → ℕ → ℕ
 homeNumber t v =
-    cond (leb (kindOf t v) 1) v
-    (cond (leb (kindOf t v) 3) (wireBase t v)
-    (cond (eqb (kindOf t v) 4) (wireBase t v + 2) (cond (eqb (kindOf t v) 5) (wireBase t v + 1) (wireBase t (argOf t v) + 2))))
+    cond (leb (kindAt t v) 1) v
+    (cond (leb (kindAt t v) 3) (wireBase t v)
+    (cond (eqb (kindAt t v) 4) (wireBase t v + 2) (cond (eqb (kindAt t v) 5) (wireBase t v + 1) (wireBase t (argOf t v) + 2))))
 
 -- elsewhere this loop's copy: behind the loop's five wires, the third of its three
 unfoldable pub valueNumber : List ℕ → ℕ → ℕ → ℕ
 valueNumber t v B = cond (eqb (home t v) B) (homeNumber t v) (wireBase t B + (5 + (3 * copyPlace t B v + 2)))
 
 module _ (t : List ℕ) (S : Structure t) where
-  home-by-number : (v : ℕ) → v < size t → kindOf t v ≤ 6 → wireNumber t (homeWire t v) ≡ homeNumber t v
+  home-by-number : (v : ℕ) → v < size t → kindAt t v ≤ 6 → wireNumber t (homeWire t v) ≡ homeNumber t v
   unfolding homeNumber
-  home-by-number v l k = go (kindOf t v) refl k
+  home-by-number v l k = go (kindAt t v) refl k
     where
-      of-op : (kindOf t v ≡ 2) ⊎ (kindOf t v ≡ 3) → wireNumber t (homeWire t v) ≡ wireBase t v
+      of-op : (kindAt t v ≡ 2) ⊎ (kindAt t v ≡ 3) → wireNumber t (homeWire t v) ≡ wireBase t v
       of-op h = ap (wireNumber t) (home-of-op t v h) ∙ op-number t v l (is-op h) ∙ (let z : wireBase t v + 0 ≡ wireBase t v = omega arith in z)
         where
-          is-op : (kindOf t v ≡ 2) ⊎ (kindOf t v ≡ 3) → isOp t v ≡ true
+          is-op : (kindAt t v ≡ 2) ⊎ (kindAt t v ≡ 3) → isOp t v ≡ true
           is-op (inl e) = rw e
           is-op (inr e) = rw e
 
-      go : (k : ℕ) → kindOf t v ≡ k → k ≤ 6 → wireNumber t (homeWire t v) ≡ cond (leb k 1) v (cond (leb k 3) (wireBase t v) (cond (eqb k 4) (wireBase t v + 2) (cond (eqb k 5) (wireBase t v + 1) (wireBase t (argOf t v) + 2))))
+      go : (k : ℕ) → kindAt t v ≡ k → k ≤ 6 → wireNumber t (homeWire t v) ≡ cond (leb k 1) v (cond (leb k 3) (wireBase t v) (cond (eqb k 4) (wireBase t v + 2) (cond (eqb k 5) (wireBase t v + 1) (wireBase t (argOf t v) + 2))))
       go zero e h = ap (wireNumber t) (home-of-start t v (omega arith)) ∙ start-number t S v l (omega arith)
       go (suc zero) e h = ap (wireNumber t) (home-of-start t v (omega arith)) ∙ start-number t S v l (omega arith)
       go (suc (suc zero)) e h = of-op (inl e)
@@ -61,7 +61,7 @@ module _ (t : List ℕ) (S : Structure t) where
           ap (wireNumber t) (home-of-next t v e) ∙ arg-number t (argOf t v) (in-table t S (argOf t v) (λ z. omega arith)) a .1
       go (suc (suc (suc (suc (suc (suc (suc k))))))) e h = absurd (omega arith)
 
-  pub value-by-number : (v B : ℕ) → v < size t → kindOf t v ≤ 6 → Reached t S v B → wireNumber t (valueWire t v B) ≡ valueNumber t v B
+  pub value-by-number : (v B : ℕ) → v < size t → kindAt t v ≤ 6 → Reached t S v B → wireNumber t (valueWire t v B) ≡ valueNumber t v B
   unfolding valueWire valueNumber
   value-by-number v B l k r = go (eqb (home t v) B) refl r
     where

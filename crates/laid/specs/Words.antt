@@ -19,7 +19,7 @@ use lib.Seq.{getD-append-add}
 use Rattle.step.specs.Kinds.{Kind, STREAM, GATE, CARRY, INVARIANT, SPLIT, FORK, DRAIN, OP, PICK, outputs}
 use Rattle.step.specs.Kinds
 use Rattle.graph.specs.Graph.{nodeCount, wireCount, startCount, resultCount, startKindAt, startWordAt, resultAt, rowPlace, Node, rowAt, nodeAt}
-use Rattle.table.specs.Rows.{kindOf}
+use Rattle.table.specs.Rows.{kindAt}
 use Rattle.lowered.specs.Gathered.{each}
 use Rattle.lowered.specs.Roles.{Role, Wire, Use, result}
 use Rattle.lowered.specs.Lower.{roles, roleKind, wires, wireSort, users, startRows, outRows, forkRows, forkNodes, allForkNodes, usersEach, plainNodes, plainWires, allUsers, standsOn, nodesFrom, forksFrom, starts, loweredNodes, startWords, kindNumber, nodeWords, nodeTotal, wireTotal, startTotal, resultTotal, loweredWords}
@@ -60,7 +60,7 @@ module _ (t : List ℕ) where
   nodePart = each nodeWords (loweredNodes t)
 
   start-words-long : (r : ℕ) → length (startWords t r) ≡ 2
-  start-words-long r = go (eqb (kindOf t r) 0) _ _
+  start-words-long r = go (eqb (kindAt t r) 0) _ _
     where
       go : (b : Bool) (x y : ℕ) → length {A = ℕ} (cond b (0 ∷ x ∷ []) (1 ∷ y ∷ [])) ≡ 2
       go true x y = refl

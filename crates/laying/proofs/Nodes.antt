@@ -10,7 +10,7 @@ use lib.ListN.{length, getD, length-append}
 use lib.Seq.{sets}
 use Rattle.step.specs.Kinds.{STREAM, GATE, CARRY, SPLIT, OP, PICK}
 use Rattle.graph.specs.Graph.{absent}
-use Rattle.table.specs.Rows.{kindOf, word, size, operandCount}
+use Rattle.table.specs.Rows.{kindAt, word, size, operandCount}
 use Rattle.table.specs.Scan.{bodyOf}
 use Rattle.table.specs.Bodies.{nextOf}
 use Rattle.structure.specs.Structure.{Structure, right-table-has-structure}
@@ -42,16 +42,16 @@ pub base-below : (t : List ℕ) (r : ℕ) → r < size t → nodeBase t (suc r) 
 unfolding nodeBase plainNodes roles
 base-below t r l = no-longer (rowRoles t) (size t) (suc r) (omega arith)
 
-two-operands : (t : List ℕ) (r : ℕ) → kindOf t r ≡ 2 → operandCount (kindOf t r) ≡ 2
+two-operands : (t : List ℕ) (r : ℕ) → kindAt t r ≡ 2 → operandCount (kindAt t r) ≡ 2
 unfolding operandCount
 two-operands t r k = rw k
 
-three-operands : (t : List ℕ) (r : ℕ) → (kindOf t r ≡ 3) ⊎ (kindOf t r ≡ 4) → operandCount (kindOf t r) ≡ 3
+three-operands : (t : List ℕ) (r : ℕ) → (kindAt t r ≡ 3) ⊎ (kindAt t r ≡ 4) → operandCount (kindAt t r) ≡ 3
 unfolding operandCount
 three-operands t r (inl k) = rw k
 three-operands t r (inr k) = rw k
 
-pub one-operand : (t : List ℕ) (r : ℕ) → (kindOf t r ≡ 5) ⊎ ((kindOf t r ≡ 6) ⊎ (kindOf t r ≡ 8)) → operandCount (kindOf t r) ≡ 1
+pub one-operand : (t : List ℕ) (r : ℕ) → (kindAt t r ≡ 5) ⊎ ((kindAt t r ≡ 6) ⊎ (kindAt t r ≡ 8)) → operandCount (kindAt t r) ≡ 1
 unfolding operandCount
 one-operand t r (inl k) = rw k
 one-operand t r (inr (inl k)) = rw k
@@ -61,7 +61,7 @@ module _ (t bodies pairs nodes wires at : List ℕ) (K : Known t bodies pairs no
   abbrev S : Structure t
   S = right-table-has-structure t (K .passing .right)
 
-  operand-is : (r j p : ℕ) → r < size t → j < operandCount (kindOf t r) → p ≡ 3 * r + j → getD at p 0 ≡ operandNumber t r j
+  operand-is : (r j p : ℕ) → r < size t → j < operandCount (kindAt t r) → p ≡ 3 * r + j → getD at p 0 ≡ operandNumber t r j
   operand-is r j p l u e = ap (λ (x : ℕ). getD at x 0) e ∙ K .operands r j (l, u)
 
   module _ (r : ℕ) (l : r < size t) where
@@ -84,20 +84,20 @@ module _ (t bodies pairs nodes wires at : List ℕ) (K : Known t bodies pairs no
     row-few = let f = K .passing .few in omega arith
 
     -- ---- OP and PICK
-    is-op : (kindOf t r ≡ 2) ⊎ (kindOf t r ≡ 3) → isOp t r ≡ true
+    is-op : (kindAt t r ≡ 2) ⊎ (kindAt t r ≡ 3) → isOp t r ≡ true
     is-op (inl k) = rw k
     is-op (inr k) = rw k
 
-    pub op-fits : (kindOf t r ≡ 2) ⊎ (kindOf t r ≡ 3) → i < 4096
+    pub op-fits : (kindAt t r ≡ 2) ⊎ (kindAt t r ≡ 3) → i < 4096
     op-fits k = let a = node-base-op t r (is-op k) in let b = under in let c = base in omega arith
 
-    op-right : (rows new : List ℕ) → (kindOf t r ≡ 2) ⊎ (kindOf t r ≡ 3) → Put t rows new (nodeBase t r) → RowLaid t r rows new
+    op-right : (rows new : List ℕ) → (kindAt t r ≡ 2) ⊎ (kindAt t r ≡ 3) → Put t rows new (nodeBase t r) → RowLaid t r rows new
     op-right rows new (inl k) Q =
         record { row = record { op = λ h. Q .row; loop = λ h. absurd (omega arith); arg = λ h. absurd (omega arith) }; stays = Q .stays; long = Q .long }
     op-right rows new (inr k) Q =
         record { row = record { op = λ h. Q .row; loop = λ h. absurd (omega arith); arg = λ h. absurd (omega arith) }; stays = Q .stays; long = Q .long }
 
-    pub op-laid : (rows new : List ℕ) → kindOf t r ≡ 2 → length rows ≡ 28672 → new ≡ opRow rows i w (word t r 1) (getD at (3 * r) 0) (getD at (3 * r + 1) 0) → RowLaid t r rows new
+    pub op-laid : (rows new : List ℕ) → kindAt t r ≡ 2 → length rows ≡ 28672 → new ≡ opRow rows i w (word t r 1) (getD at (3 * r) 0) (getD at (3 * r + 1) 0) → RowLaid t r rows new
     op-laid rows new k long e =
         let m = two-operands t r k in
         op-right rows new (inl k)
@@ -105,7 +105,7 @@ module _ (t bodies pairs nodes wires at : List ℕ) (K : Known t bodies pairs no
         long (op-fits (inl k)) e base (op-place t r l (is-op (inl k))) (op-node t S r l k)
         refl refl (operand-is r 0 (3 * r) l (omega arith) (omega arith)) (operand-is r 1 (3 * r + 1) l (omega arith) (omega arith)) refl first)
 
-    pub pick-laid : (rows new : List ℕ) → kindOf t r ≡ 3 → length rows ≡ 28672 → new ≡ pickRow rows i w (getD at (3 * r) 0) (getD at (3 * r + 1) 0) (getD at (3 * r + 2) 0) → RowLaid t r rows new
+    pub pick-laid : (rows new : List ℕ) → kindAt t r ≡ 3 → length rows ≡ 28672 → new ≡ pickRow rows i w (getD at (3 * r) 0) (getD at (3 * r + 1) 0) (getD at (3 * r + 2) 0) → RowLaid t r rows new
     pick-laid rows new k long e =
         let m = three-operands t r (inl k) in
         op-right rows new (inr k)
@@ -114,13 +114,13 @@ module _ (t bodies pairs nodes wires at : List ℕ) (K : Known t bodies pairs no
         refl refl (operand-is r 0 (3 * r) l (omega arith) (omega arith)) (operand-is r 1 (3 * r + 1) l (omega arith) (omega arith)) (operand-is r 2 (3 * r + 2) l (omega arith) (omega arith)) first)
 
     -- ---- FOR
-    pub loop-fits : kindOf t r ≡ 4 → i + 2 < 4096
+    pub loop-fits : kindAt t r ≡ 4 → i + 2 < 4096
     loop-fits k = let a = node-base-for t r k in let b = under in let c = base in omega arith
 
-    pub loop-words : kindOf t r ≡ 4 → (word t r 4 ≤ 5) × (word t r 5 ≤ 4)
+    pub loop-words : kindAt t r ≡ 4 → (word t r 4 ≤ 5) × (word t r 5 ≤ 4)
     loop-words k = let c = S .loop-codes r l k in let c0 = c .0 in let c1 = c .1 in (omega arith, omega arith)
 
-    loop-put : (rows one two new : List ℕ) (a b d : ℕ) → kindOf t r ≡ 4 → length rows ≡ 28672
+    loop-put : (rows one two new : List ℕ) (a b d : ℕ) → kindAt t r ≡ 4 → length rows ≡ 28672
         → a ≡ operandNumber t r 0 → b ≡ operandNumber t r 1 → d ≡ operandNumber t r 2
         → one ≡ sets rows (7 * i) (0 ∷ (5 * word t r 4 + word t r 5) ∷ 0 ∷ a ∷ b ∷ d ∷ w ∷ [])
         → two ≡ sets one (7 * (i + 1)) (1 ∷ 0 ∷ 0 ∷ w ∷ (w + 1) ∷ absent ∷ (w + 2) ∷ [])
@@ -146,10 +146,10 @@ module _ (t bodies pairs nodes wires at : List ℕ) (K : Known t bodies pairs no
           long = C .long;
         }
       where
-        not-op : isOp t r ≡ true → kindOf t r ≡ 4 → RightRow t new (nodeBase t r)
+        not-op : isOp t r ≡ true → kindAt t r ≡ 4 → RightRow t new (nodeBase t r)
         not-op h k = elim (op-kind t r h) [ inl z ↦ absurd (omega arith) | inr z ↦ absurd (omega arith) ]
 
-    pub loop-laid : (rows new : List ℕ) → kindOf t r ≡ 4 → length rows ≡ 28672
+    pub loop-laid : (rows new : List ℕ) → kindAt t r ≡ 4 → length rows ≡ 28672
         → new ≡ loopRows rows i w (word t r 4) (word t r 5) (getD at (3 * r) 0) (getD at (3 * r + 1) 0) (getD at (3 * r + 2) 0)
         → RowLaid t r rows new
     loop-laid rows new k long e =
@@ -161,20 +161,20 @@ module _ (t bodies pairs nodes wires at : List ℕ) (K : Known t bodies pairs no
         refl refl e
 
     -- ---- ARG
-    pub arg-fits : kindOf t r ≡ 5 → i + 1 < 4096
+    pub arg-fits : kindAt t r ≡ 5 → i + 1 < 4096
     arg-fits k = let a = node-base-arg t r k in let b = under in let c = base in omega arith
 
-    pub arg-body : kindOf t r ≡ 5 → getD bodies r 0 < 512
+    pub arg-body : kindAt t r ≡ 5 → getD bodies r 0 < 512
     arg-body k =
         let z = K .bodies-noted .body r l in
         let o = S .arg-row r l k .low in
         let f = S .few in
         omega arith
 
-    next-in : kindOf t r ≡ 5 → nextOf t r < size t
+    next-in : kindAt t r ≡ 5 → nextOf t r < size t
     next-in k = let o = S .arg-row r l k .next-kind in in-table t S (nextOf t r) (λ y. omega arith)
 
-    pub arg-next : kindOf t r ≡ 5 → getD pairs r 0 < 512
+    pub arg-next : kindAt t r ≡ 5 → getD pairs r 0 < 512
     arg-next k =
         let z = K .pairs-noted .next r l k in
         let s = next-in k in
@@ -182,19 +182,19 @@ module _ (t bodies pairs nodes wires at : List ℕ) (K : Known t bodies pairs no
         omega arith
 
     -- the raw condition of the loop around
-    arg-raw : kindOf t r ≡ 5 → getD wires (getD bodies r 0) 0 + 1 ≡ wireBase t (bodyOf t r) + 1
+    arg-raw : kindAt t r ≡ 5 → getD wires (getD bodies r 0) 0 + 1 ≡ wireBase t (bodyOf t r) + 1
     arg-raw k =
         let o = S .arg-row r l k .low in
         ap (λ (x : ℕ). getD wires x 0 + 1) (K .bodies-noted .body r l) ∙ ap (λ (x : ℕ). x + 1) (K .bases .wire (bodyOf t r) (omega arith))
 
     -- the operand of the NEXT that serves it
-    arg-operand : kindOf t r ≡ 5 → getD at (3 * getD pairs r 0) 0 ≡ operandNumber t (nextOf t r) 0
+    arg-operand : kindAt t r ≡ 5 → getD at (3 * getD pairs r 0) 0 ≡ operandNumber t (nextOf t r) 0
     arg-operand k =
         let c = one-operand t (nextOf t r) (inr (inl (S .arg-row r l k .next-kind))) in
         let z = K .pairs-noted .next r l k in
         operand-is (nextOf t r) 0 (3 * getD pairs r 0) (next-in k) (omega arith) (omega arith)
 
-    arg-put : (rows one new : List ℕ) (raw a b : ℕ) → kindOf t r ≡ 5 → length rows ≡ 28672
+    arg-put : (rows one new : List ℕ) (raw a b : ℕ) → kindAt t r ≡ 5 → length rows ≡ 28672
         → raw ≡ wireBase t (bodyOf t r) + 1 → a ≡ operandNumber t r 0 → b ≡ operandNumber t (nextOf t r) 0
         → one ≡ sets rows (7 * i) (2 ∷ 0 ∷ 0 ∷ raw ∷ a ∷ b ∷ w ∷ [])
         → new ≡ sets one (7 * (i + 1)) (4 ∷ 0 ∷ 0 ∷ raw ∷ w ∷ absent ∷ (w + 1) ∷ [])
@@ -217,10 +217,10 @@ module _ (t bodies pairs nodes wires at : List ℕ) (K : Known t bodies pairs no
           long = C .long;
         }
       where
-        not-op : isOp t r ≡ true → kindOf t r ≡ 5 → RightRow t new (nodeBase t r)
+        not-op : isOp t r ≡ true → kindAt t r ≡ 5 → RightRow t new (nodeBase t r)
         not-op h k = elim (op-kind t r h) [ inl z ↦ absurd (omega arith) | inr z ↦ absurd (omega arith) ]
 
-    pub arg-laid : (rows new : List ℕ) → kindOf t r ≡ 5 → length rows ≡ 28672
+    pub arg-laid : (rows new : List ℕ) → kindAt t r ≡ 5 → length rows ≡ 28672
         → new ≡ argRows rows i w (getD wires (getD bodies r 0) 0 + 1) (getD at (3 * r) 0) (getD at (3 * getD pairs r 0) 0)
         → RowLaid t r rows new
     arg-laid rows new k long e =
@@ -228,7 +228,7 @@ module _ (t bodies pairs nodes wires at : List ℕ) (K : Known t bodies pairs no
         arg-put rows _ new _ _ _ k long (arg-raw k) (operand-is r 0 (3 * r) l (omega arith) (omega arith)) (arg-operand k) refl e
 
   -- ---- any other row has no nodes of its own
-  pub none-laid : (rows : List ℕ) (r k : ℕ) → length rows ≡ 28672 → k ≡ kindOf t r → k ≢ 2 → k ≢ 3 → k ≢ 4 → k ≢ 5 → RowLaid t r rows rows
+  pub none-laid : (rows : List ℕ) (r k : ℕ) → length rows ≡ 28672 → k ≡ kindAt t r → k ≢ 2 → k ≢ 3 → k ≢ 4 → k ≢ 5 → RowLaid t r rows rows
   none-laid rows r k long e a b c d =
       record {
         row = record {

@@ -9,7 +9,7 @@ use native.Mathlib.Decide.{ℕ-discrete}
 use borrow.Author.Tests.{eq-eqb, ne-eqb, eqb-true}
 use lib.ListN.{length, getD, set, length-set}
 use lib.Seq.{getD-set-same, getD-set-other}
-use Rattle.table.specs.Rows.{kindOf, size}
+use Rattle.table.specs.Rows.{kindAt, size}
 use Rattle.table.specs.Scan.{reads}
 use Rattle.table.specs.Bodies.{operand}
 use Rattle.structure.specs.Structure.{Structure, right-table-has-structure}
@@ -35,13 +35,13 @@ no-outs t outs long = record { long = long; count = sym (none-yet (isOut t)); ou
 under : (q r : ℕ) → q ≢ r → q < suc r → q < r
 under q r y z = omega arith
 
-pub out-skipped : (t : List ℕ) (r k kind : ℕ) (outs : List ℕ) → OutsLaid t r k outs → kind ≡ kindOf t r → kind ≢ 8 → OutsLaid t (r + 1) k outs
+pub out-skipped : (t : List ℕ) (r k kind : ℕ) (outs : List ℕ) → OutsLaid t r k outs → kind ≡ kindAt t r → kind ≢ 8 → OutsLaid t (r + 1) k outs
 out-skipped t r k kind outs O e d =
     subst (λ (x : ℕ). OutsLaid t x k outs) (let z : suc r ≡ r + 1 = omega arith in z)
     (record {
       long = O .long;
-      count = (let a = no-more (isOut t) r (ne-eqb (kindOf t r) 8 (λ z. d (e ∙ z))) in let c = O .count in omega arith);
-      out = λ q lq h. elim (ℕ-discrete q r) [ yes y ↦ absurd (d (e ∙ ap (kindOf t) (sym y) ∙ eqb-true (kindOf t q) 8 h)) | no y ↦ O .out q (under q r y lq) h ];
+      count = (let a = no-more (isOut t) r (ne-eqb (kindAt t r) 8 (λ z. d (e ∙ z))) in let c = O .count in omega arith);
+      out = λ q lq h. elim (ℕ-discrete q r) [ yes y ↦ absurd (d (e ∙ ap (kindAt t) (sym y) ∙ eqb-true (kindAt t q) 8 h)) | no y ↦ O .out q (under q r y lq) h ];
     })
 
 module _ (t : List ℕ) (n : ℕ) (P : Passing t n) where
@@ -51,7 +51,7 @@ module _ (t : List ℕ) (n : ℕ) (P : Passing t n) where
   pub out-fits : (r k : ℕ) (outs : List ℕ) → r < n → OutsLaid t r k outs → k < 512
   out-fits r k outs l O = let a = those-few (isOut t) r in let c = O .count in let f = P .few in omega arith
 
-  pub out-laid : (at : List ℕ) → Operands t at → (r k kind w : ℕ) (outs : List ℕ) → r < n → OutsLaid t r k outs → kind ≡ kindOf t r → kind ≡ 8 → w ≡ getD at (3 * r) 0 → OutsLaid t (r + 1) (k + 1) (set outs k w)
+  pub out-laid : (at : List ℕ) → Operands t at → (r k kind w : ℕ) (outs : List ℕ) → r < n → OutsLaid t r k outs → kind ≡ kindAt t r → kind ≡ 8 → w ≡ getD at (3 * r) 0 → OutsLaid t (r + 1) (k + 1) (set outs k w)
   out-laid at K r k kind w outs l O e d ew =
       subst (λ (x : ℕ). OutsLaid t x (k + 1) (set outs k w)) (let z : suc r ≡ r + 1 = omega arith in z)
       (record {
@@ -64,7 +64,7 @@ module _ (t : List ℕ) (n : ℕ) (P : Passing t n) where
       r-in = let z = P .rows in omega arith
 
       is-out : isOut t r ≡ true
-      is-out = eq-eqb (kindOf t r) 8 (sym e ∙ d)
+      is-out = eq-eqb (kindAt t r) 8 (sym e ∙ d)
 
       number : w ≡ operandNumber t r 0
       number =

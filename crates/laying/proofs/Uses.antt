@@ -8,7 +8,7 @@ use native.Mathlib.Omega.{arith}
 use native.Mathlib.Decide.{ℕ-discrete, decLt}
 use lib.ListN.{length, getD, set, length-set}
 use lib.Seq.{getD-set-same, getD-set-other}
-use Rattle.table.specs.Rows.{kindOf, size, at-most-three}
+use Rattle.table.specs.Rows.{kindAt, size, at-most-three}
 use Rattle.table.specs.Scan.{reads}
 use Rattle.table.specs.Bodies.{operand}
 use Rattle.structure.specs.Structure.{Structure, right-table-has-structure}
@@ -41,7 +41,7 @@ module _ (t : List ℕ) (n : ℕ) (P : Passing t n) where
   S = right-table-has-structure t (P .right)
 
   third : (r j p : ℕ) → IsUse t r j → p ≡ 3 * r + j → p / 3 ≡ r
-  third r j p u e = let a = at-most-three (kindOf t r) in let b = u .1 in omega arith
+  third r j p u e = let a = at-most-three (kindAt t r) in let b = u .1 in omega arith
 
   -- ---- one operand
   module _ (v p : ℕ) (U : UseAt t v p) where
@@ -56,14 +56,14 @@ module _ (t : List ℕ) (n : ℕ) (P : Passing t n) where
         let l = U .is .0 in
         omega arith
 
-    pub is-value : kindOf t v ≤ 6
-    is-value = subst (λ (x : ℕ). kindOf t x ≤ 6) (U .names) (S .operands (U .row) (U .place) (U .is .0) (U .is .1) .is-value)
+    pub is-value : kindAt t v ≤ 6
+    is-value = subst (λ (x : ℕ). kindAt t x ≤ 6) (U .names) (S .operands (U .row) (U .place) (U .is .0) (U .is .1) .is-value)
 
     pub row-below : p / 3 < n
     row-below = let e = row-is in let r = P .rows in let l = U .is .0 in omega arith
 
     pub place-below : p < 1536
-    place-below = let a = at-most-three (kindOf t (U .row)) in let b = U .is .1 in let e = U .at in let l = U .is .0 in let f = S .few in omega arith
+    place-below = let a = at-most-three (kindAt t (U .row)) in let b = U .is .1 in let e = U .at in let l = U .is .0 in let f = S .few in omega arith
 
     module _ (b : ℕ) (eb : b ≡ reads t (p / 3)) where
       body-is : b ≡ reads t (U .row)
@@ -106,7 +106,7 @@ module _ (t : List ℕ) (n : ℕ) (P : Passing t n) where
   -- ---- the operands of one value
   module _ (nodes wires heads links : List ℕ) (K : Uses t (3 * n) heads links) (v : ℕ) (lv : v < n) where
     in-reach : (r j : ℕ) → IsUse t r j → 3 * r + j < 3 * n
-    in-reach r j u = let a = at-most-three (kindOf t r) in let b = u .1 in let l = u .0 in let r = P .rows in omega arith
+    in-reach r j u = let a = at-most-three (kindAt t r) in let b = u .1 in let l = u .0 in let r = P .rows in omega arith
 
     pub first-use : (c : ℕ) (counts lasts rows at : List ℕ) → c ≡ getD heads v 0 → Counting t v counts lasts → length rows ≡ 28672 → length at ≡ 1536 → Using t v c nodes wires rows at counts lasts rows at
     first-use c counts lasts rows at e C long at-long =
@@ -186,8 +186,8 @@ module _ (t : List ℕ) (n : ℕ) (P : Passing t n) where
           apart : (r j : ℕ) → IsUse t r j → operand t r j ≢ v → 3 * r + j ≢ c - 1
           apart r j u e q =
               let U = use-at in
-              let a = at-most-three (kindOf t r) in
-              let b = at-most-three (kindOf t (U .row)) in
+              let a = at-most-three (kindAt t r) in
+              let b = at-most-three (kindAt t (U .row)) in
               let x = u .1 in
               let y = U .is .1 in
               let f = U .at in
@@ -222,12 +222,12 @@ module _ (t : List ℕ) (n : ℕ) (P : Passing t n) where
           right = λ B. (let g = G .right B in record { stays = g .stays; copies = λ L l k h. g .copies L l k (entered L l k h); value = λ r j u d. g .value r j u d (omega arith) });
         }
       where
-        entered : (L : ℕ) → L < size t → kindOf t L ≡ 4 → carried t L v ≡ true → getD lasts L 0 ≡ suc v
+        entered : (L : ℕ) → L < size t → kindAt t L ≡ 4 → carried t L v ≡ true → getD lasts L 0 ≡ suc v
         entered L l k h =
             let w = carried-is-walked t S L v l k h in
             G .passed (w .0) (w .1) L (w .2, w .3) (w .4) (omega arith) (w .5)
 
-        counted : (L : ℕ) → L < size t → kindOf t L ≡ 4 → (b : Bool) → carried t L v ≡ b → getD counts L 0 ≡ copyPlace t L (suc v)
+        counted : (L : ℕ) → L < size t → kindAt t L ≡ 4 → (b : Bool) → carried t L v ≡ b → getD counts L 0 ≡ copyPlace t L (suc v)
         counted L l k true h = G .next .there L l k (entered L l k h) .1 ∙ sym (place-after t L v h)
         counted L l k false h = G .next .away L l k (λ z. no-both (carried t L v) (G .next .there L l k z .0) h) ∙ sym (place-same t L v h)
 

@@ -15,7 +15,7 @@ use mathlib.Core.Logic.{_≢_}
 use mathlib.Core.List.{List, [], _∷_}
 use lib.ListN.{length, getD}
 use lib.Seq.{sets}
-use Rattle.table.specs.Rows.{kindOf, size}
+use Rattle.table.specs.Rows.{kindAt, size}
 use Rattle.table.specs.Scan.{bodyOf, home}
 use Rattle.graph.specs.Graph.{absent}
 use Rattle.lowered.specs.Sources.{carried}
@@ -27,7 +27,7 @@ use Rattle.written.specs.Plain.{RightRow}
 use Rattle.carrying.specs.Kept.{Bases, Low}
 
 pub record Room (t nodes wires : List ℕ) : Type 0 where
-  pub node : (L : ℕ) → L < size t → kindOf t L ≡ 4 → getD nodes L 0 + (3 + 2 * length (carriedInto t L)) ≤ 4096
+  pub node : (L : ℕ) → L < size t → kindAt t L ≡ 4 → getD nodes L 0 + (3 + 2 * length (carriedInto t L)) ≤ 4096
   pub wire : Low wires
 
 -- the two rows of a copy, for a loop whose nodes start at i and wires at w
@@ -42,15 +42,15 @@ pub record Entering (t : List ℕ) (v : ℕ) (counts lasts : List ℕ) : Type 0 
   pub counts-long : length counts ≡ 512
   pub lasts-long : length lasts ≡ 512
   pub low : (L : ℕ) → getD lasts L 0 ≤ suc v
-  pub there : (L : ℕ) → L < size t → kindOf t L ≡ 4 → getD lasts L 0 ≡ suc v → (carried t L v ≡ true) × (getD counts L 0 ≡ suc (copyPlace t L v))
-  pub away : (L : ℕ) → L < size t → kindOf t L ≡ 4 → getD lasts L 0 ≢ suc v → getD counts L 0 ≡ copyPlace t L v
+  pub there : (L : ℕ) → L < size t → kindAt t L ≡ 4 → getD lasts L 0 ≡ suc v → (carried t L v ≡ true) × (getD counts L 0 ≡ suc (copyPlace t L v))
+  pub away : (L : ℕ) → L < size t → kindAt t L ≡ 4 → getD lasts L 0 ≢ suc v → getD counts L 0 ≡ copyPlace t L v
 
 pub record RightCopy (t : List ℕ) (v : ℕ) (rows : List ℕ) (L : ℕ) : Type 0 where
   pub split : RightRow t rows (nodeBase t L + (3 + 2 * copyPlace t L v))
   pub invariant : RightRow t rows (nodeBase t L + (4 + 2 * copyPlace t L v))
 
 abbrev pub RightCopies : List ℕ → ℕ → List ℕ → List ℕ → Type 0
-RightCopies t v lasts rows = (L : ℕ) → L < size t → kindOf t L ≡ 4 → getD lasts L 0 ≡ suc v → RightCopy t v rows L
+RightCopies t v lasts rows = (L : ℕ) → L < size t → kindAt t L ≡ 4 → getD lasts L 0 ≡ suc v → RightCopy t v rows L
 
 pub record Sound (t : List ℕ) (v b : ℕ) (lasts rows lasts′ rows′ : List ℕ) (w : ℕ) : Type 0 where
   pub value : w ≡ valueNumber t v b
@@ -74,7 +74,7 @@ pub record Resolved (t : List ℕ) (v b : ℕ) (nodes wires : List ℕ) (own : �
 -- Loop b can take a copy of value v.
 pub record Takes (t : List ℕ) (v b : ℕ) : Type 0 where
   pub loop : b < size t
-  pub is-for : kindOf t b ≡ 4
+  pub is-for : kindAt t b ≡ 4
   pub carries : carried t b v ≡ true
   pub value : v < size t
   pub abroad : home t v ≢ b

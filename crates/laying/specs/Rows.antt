@@ -15,7 +15,7 @@ use mathlib.Core.Path.{_≡_}
 use mathlib.Core.List.{List, [], _∷_}
 use lib.ListN.{length, getD}
 use lib.Seq.{sets}
-use Rattle.table.specs.Rows.{kindOf, size}
+use Rattle.table.specs.Rows.{kindAt, size}
 use Rattle.graph.specs.Graph.{absent}
 use Rattle.lowered.specs.Gathered.{those}
 use Rattle.lowered.specs.Sources.{isOp}
@@ -68,8 +68,8 @@ pub record Known (t bodies pairs nodes wires at : List ℕ) : Type 0 where
 
 pub record RowRight (t : List ℕ) (r : ℕ) (rows : List ℕ) : Type 0 where
   pub op : isOp t r ≡ true → RightRow t rows (nodeBase t r)
-  pub loop : kindOf t r ≡ 4 → RightRow t rows (nodeBase t r) × RightRow t rows (nodeBase t r + 1) × RightRow t rows (nodeBase t r + 2)
-  pub arg : kindOf t r ≡ 5 → RightRow t rows (nodeBase t r) × RightRow t rows (nodeBase t r + 1)
+  pub loop : kindAt t r ≡ 4 → RightRow t rows (nodeBase t r) × RightRow t rows (nodeBase t r + 1) × RightRow t rows (nodeBase t r + 2)
+  pub arg : kindAt t r ≡ 5 → RightRow t rows (nodeBase t r) × RightRow t rows (nodeBase t r + 1)
 
 pub record RowLaid (t : List ℕ) (r : ℕ) (rows rows′ : List ℕ) : Type 0 where
   pub row : RowRight t r rows′

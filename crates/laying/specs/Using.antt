@@ -15,7 +15,7 @@ use mathlib.Core.Path.{_≡_}
 use mathlib.Core.Logic.{_≢_}
 use mathlib.Core.List.{List}
 use lib.ListN.{length, getD}
-use Rattle.table.specs.Rows.{kindOf, size}
+use Rattle.table.specs.Rows.{kindAt, size}
 use Rattle.table.specs.Scan.{reads}
 use Rattle.table.specs.Bodies.{operand}
 use Rattle.lowered.specs.Sources.{carried}
@@ -30,7 +30,7 @@ pub record Counting (t : List ℕ) (v : ℕ) (counts lasts : List ℕ) : Type 0 
   pub counts-long : length counts ≡ 512
   pub lasts-long : length lasts ≡ 512
   pub low : (L : ℕ) → getD lasts L 0 ≤ v
-  pub count : (L : ℕ) → L < size t → kindOf t L ≡ 4 → getD counts L 0 ≡ copyPlace t L v
+  pub count : (L : ℕ) → L < size t → kindAt t L ≡ 4 → getD counts L 0 ≡ copyPlace t L v
 
 pub record UseAt (t : List ℕ) (v p : ℕ) : Type 0 where
   pub row : ℕ
@@ -69,7 +69,7 @@ pub record Using (t : List ℕ) (v c : ℕ) (nodes wires rows₀ at₀ counts la
 
 pub record UsesRight (t : List ℕ) (v : ℕ) (rows rows′ at′ : List ℕ) : Type 0 where
   pub stays : (i : ℕ) → RightRow t rows i → RightRow t rows′ i
-  pub copies : (L : ℕ) → L < size t → kindOf t L ≡ 4 → carried t L v ≡ true → RightCopy t v rows′ L
+  pub copies : (L : ℕ) → L < size t → kindAt t L ≡ 4 → carried t L v ≡ true → RightCopy t v rows′ L
   pub value : (r j : ℕ) → IsUse t r j → operand t r j ≡ v → getD at′ (3 * r + j) 0 ≡ operandNumber t r j
 
 pub record UsesResolved (t : List ℕ) (v : ℕ) (nodes wires rows at counts′ lasts′ rows′ at′ : List ℕ) : Type 0 where
@@ -80,7 +80,7 @@ pub record UsesResolved (t : List ℕ) (v : ℕ) (nodes wires rows at counts′ 
   pub right : Bases t nodes wires → UsesRight t v rows rows′ at′
 
 pub record ValuesRight (t : List ℕ) (v : ℕ) (rows at : List ℕ) : Type 0 where
-  pub copies : (L u : ℕ) → L < size t → kindOf t L ≡ 4 → u < v → carried t L u ≡ true → RightCopy t u rows L
+  pub copies : (L u : ℕ) → L < size t → kindAt t L ≡ 4 → u < v → carried t L u ≡ true → RightCopy t u rows L
   pub value : (r j : ℕ) → IsUse t r j → operand t r j < v → getD at (3 * r + j) 0 ≡ operandNumber t r j
 
 pub record Values (t : List ℕ) (v : ℕ) (nodes wires counts lasts rows at : List ℕ) : Type 0 where

@@ -15,7 +15,7 @@ use lib.ListN.{length}
 use Rattle.step.specs.Kinds.{Kind, STREAM, GATE, CARRY, INVARIANT, SPLIT, FORK, DRAIN, OP, PICK, outputs, outputSort, in0, in1, in2, out0, out1}
 use Rattle.graph.specs.Graph.{Node, absent}
 use Rattle.table.specs.Rows
-use Rattle.table.specs.Rows.{kindOf, word, size, sortOf, INPUT, CONST, OUT}
+use Rattle.table.specs.Rows.{kindAt, word, size, sortOf, INPUT, CONST, OUT}
 use Rattle.lowered.specs.Gathered.{gathered, those, each, position}
 use Rattle.lowered.specs.Roles.{Role, opNode, stream, gate, guard, copySplit, copyInvariant, carry, argSplit, Wire, start, output, Use, into, result, sameWire, sameUse}
 use Rattle.lowered.specs.Sources.{carried, isOp, isFor, isArgRow, source}
@@ -44,7 +44,7 @@ roles t = gathered (rowRoles t) (size t)
 -- The columns of that table: kind, code and sort. STREAM: '5 × update + condition'. The guard asks the loop's condition, as an operator: '3 +
 -- condition'.
 abbrev pub roleKind : List ℕ → Role → Kind
-roleKind t (opNode r) = cond (eqb (kindOf t r) Rows.OP) OP PICK
+roleKind t (opNode r) = cond (eqb (kindAt t r) Rows.OP) OP PICK
 roleKind t (stream L) = STREAM
 roleKind t (gate L) = GATE
 roleKind t (guard L) = OP
@@ -54,7 +54,7 @@ roleKind t (carry a) = CARRY
 roleKind t (argSplit a) = SPLIT
 
 abbrev pub roleCode : List ℕ → Role → ℕ
-roleCode t (opNode r) = cond (eqb (kindOf t r) Rows.OP) (word t r 1) 0
+roleCode t (opNode r) = cond (eqb (kindAt t r) Rows.OP) (word t r 1) 0
 roleCode t (stream L) = 5 * word t L 4 + word t L 5
 roleCode t (gate L) = 0
 roleCode t (guard L) = 3 + word t L 5
@@ -76,7 +76,7 @@ roleSort t (argSplit a) = 0
 -- ---- wires
 
 abbrev pub isStart : List ℕ → ℕ → Bool
-isStart t r = leb (kindOf t r) CONST
+isStart t r = leb (kindAt t r) CONST
 
 -- 'the INPUT and CONST rows as they stand'
 unfoldable pub startRows : List ℕ → List ℕ
@@ -117,7 +117,7 @@ abbrev pub roleUses : List ℕ → Role → List Use
 roleUses t n = useIf t (into n in0) ++ (useIf t (into n in1) ++ useIf t (into n in2))
 
 abbrev pub isOut : List ℕ → ℕ → Bool
-isOut t r = eqb (kindOf t r) OUT
+isOut t r = eqb (kindAt t r) OUT
 
 unfoldable pub outRows : List ℕ → List ℕ
 outRows t = those (isOut t) (size t)
@@ -243,7 +243,7 @@ loweredNodes t = nodesFrom t (length (starts t)) (roles t) ++ forksFrom t 0 (wir
 
 -- 'of an INPUT, 0 and its number among the inputs, and of a CONST, 1 and its word'
 abbrev pub startWords : List ℕ → ℕ → List ℕ
-startWords t r = cond (eqb (kindOf t r) INPUT) (0 ∷ length (those (λ q. eqb (kindOf t q) INPUT) r) ∷ []) (1 ∷ word t r 1 ∷ [])
+startWords t r = cond (eqb (kindAt t r) INPUT) (0 ∷ length (those (λ q. eqb (kindAt t q) INPUT) r) ∷ []) (1 ∷ word t r 1 ∷ [])
 
 abbrev pub kindNumber : Kind → ℕ
 kindNumber STREAM = 0

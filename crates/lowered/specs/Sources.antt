@@ -13,7 +13,7 @@ use mathlib.Core.List.{List}
 use mathlib.Core.Option.{Option, none, some}
 use lib.Dec.{eqb, leb}
 use Rattle.step.specs.Kinds.{Input, in0, in1, in2, out0, out1}
-use Rattle.table.specs.Rows.{kindOf, size, operandCount, CONST, OP, PICK, FOR, ARG, OUT}
+use Rattle.table.specs.Rows.{kindAt, size, operandCount, CONST, OP, PICK, FOR, ARG, OUT}
 use Rattle.table.specs.Scan.{stackAt, bodyOf, reads, home, holds}
 use Rattle.table.specs.Bodies.{operand, argOf, nextOf}
 use Rattle.lowered.specs.Gathered.{some?}
@@ -25,7 +25,7 @@ inside t L B = eqb B L || holds L (stackAt t B)
 
 -- v is an operand of row r
 unfoldable pub names : List ℕ → ℕ → ℕ → Bool
-names t r v = some? (λ j. eqb (operand t r j) v) (operandCount (kindOf t r))
+names t r v = some? (λ j. eqb (operand t r j) v) (operandCount (kindAt t r))
 
 -- 'Value v is carried into loop L if its home is neither L nor a loop in L, and some row whose operands are read in L or in a loop in L names
 -- v.' A NEXT's operand is read in its loop, those of FOR and ARG in the body around.
@@ -36,10 +36,10 @@ carried t L v = not (inside t L (home t v)) && some? (λ r. inside t L (reads t 
 -- true leg of its SPLIT'. NEXT: 'the false leg of its ARG's SPLIT'.
 unfoldable pub homeWire : List ℕ → ℕ → Wire
 homeWire t v =
-    cond (leb (kindOf t v) CONST) (start v)
-    (cond (leb (kindOf t v) PICK) (output (opNode v) out0)
-    (cond (eqb (kindOf t v) FOR) (output (gate v) out0)
-    (cond (eqb (kindOf t v) ARG) (output (argSplit v) out0) (output (argSplit (argOf t v)) out1))))
+    cond (leb (kindAt t v) CONST) (start v)
+    (cond (leb (kindAt t v) PICK) (output (opNode v) out0)
+    (cond (eqb (kindAt t v) FOR) (output (gate v) out0)
+    (cond (eqb (kindAt t v) ARG) (output (argSplit v) out0) (output (argSplit (argOf t v)) out1))))
 
 -- 'In any other body its wire is the copy of it that this loop makes'.
 unfoldable pub valueWire : List ℕ → ℕ → ℕ → Wire
@@ -56,13 +56,13 @@ abbrev pub named : List ℕ → ℕ → ℕ → Feed
 named t r j = value (operand t r j) (reads t r)
 
 abbrev pub isOp : List ℕ → ℕ → Bool
-isOp t r = eqb (kindOf t r) OP || eqb (kindOf t r) PICK
+isOp t r = eqb (kindAt t r) OP || eqb (kindAt t r) PICK
 
 abbrev pub isFor : List ℕ → ℕ → Bool
-isFor t L = eqb (kindOf t L) FOR
+isFor t L = eqb (kindAt t L) FOR
 
 abbrev pub isArgRow : List ℕ → ℕ → Bool
-isArgRow t a = eqb (kindOf t a) ARG
+isArgRow t a = eqb (kindAt t a) ARG
 
 -- a table has this node
 abbrev pub has : List ℕ → Role → Bool
@@ -79,7 +79,7 @@ has t (argSplit a) = isArgRow t a
 abbrev pub opFeed : List ℕ → ℕ → Input → Feed
 opFeed t r in0 = named t r 0
 opFeed t r in1 = named t r 1
-opFeed t r in2 = cond (eqb (kindOf t r) PICK) (named t r 2) nothing
+opFeed t r in2 = cond (eqb (kindAt t r) PICK) (named t r 2) nothing
 
 -- STREAM: 'start, step and bound in the body around'
 abbrev pub streamFeed : List ℕ → ℕ → Input → Feed
@@ -136,7 +136,7 @@ roleFeed t (argSplit a) k = argSplitFeed t a k
 -- a node that the table does not have takes nothing; a result is what its OUT row names
 unfoldable pub feed : List ℕ → Use → Feed
 feed t (into n k) = cond (has t n) (roleFeed t n k) nothing
-feed t (result q) = cond (eqb (kindOf t q) OUT) (named t q 0) nothing
+feed t (result q) = cond (eqb (kindAt t q) OUT) (named t q 0) nothing
 
 abbrev pub wireOf : List ℕ → Feed → Option Wire
 wireOf t (value v B) = some (valueWire t v B)

@@ -19,7 +19,7 @@ use lib.Dec.{eqb}
 use lib.ListN.{length, getD, set, length-set, replicate, getD-replicate, length-replicate}
 use lib.Seq.{getD-set-same, getD-set-other}
 use Rattle.word.specs.Words.{flag}
-use Rattle.table.specs.Rows.{kindOf, size, operandCount}
+use Rattle.table.specs.Rows.{kindAt, size, operandCount}
 use Rattle.table.specs.Scan.{Loop, inner, stackAt, bodyOf, reads, home, holds}
 use Rattle.table.specs.Bodies.{operand}
 use Rattle.table.specs.Right.{TableRight}
@@ -42,7 +42,7 @@ not-here : (t : List ℕ) (L x : ℕ) → x ≢ L → inside t L x ≡ holds L (
 unfolding inside
 not-here t L x d = rw (ne-eqb x L d)
 
-names-are : (t : List ℕ) (r v : ℕ) → some? (λ j. eqb (operand t r j) v) (operandCount (kindOf t r)) ≡ names t r v
+names-are : (t : List ℕ) (r v : ℕ) → some? (λ j. eqb (operand t r j) v) (operandCount (kindAt t r)) ≡ names t r v
 unfolding names
 names-are t r v = refl
 
@@ -63,7 +63,7 @@ module _ (t : List ℕ) (n : ℕ) (P : Passing t n) where
   pub reads-is-body : (r : ℕ) → r < n → Body t (reads t r)
   reads-is-body r l = let e = P .rows in reads-body-or-rim t S r (omega arith)
 
-  pub operands-low : (r count : ℕ) → r < n → count ≡ operandCount (kindOf t r) → (j : ℕ) → j < count → operand t r j < 512
+  pub operands-low : (r count : ℕ) → r < n → count ≡ operandCount (kindAt t r) → (j : ℕ) → j < count → operand t r j < 512
   operands-low r count l e j h =
       let m = P .rows in
       let f = P .few in
@@ -88,7 +88,7 @@ module _ (t : List ℕ) (n : ℕ) (P : Passing t n) where
       go (inr q) = let f = depth-falls t (P .right) x (q .0) in let z : depth t y ≡ depth t (bodyOf t x) = ap (depth t) e in omega arith
 
   pub home-is-body : (v : ℕ) → v < n → Body t (home t v)
-  home-is-body v l = go (ℕ-discrete (kindOf t v) 4) (ℕ-discrete (kindOf t v) 6) (decLe (kindOf t v) 1)
+  home-is-body v l = go (ℕ-discrete (kindAt t v) 4) (ℕ-discrete (kindAt t v) 6) (decLe (kindAt t v) 1)
     where
       low : v < size t
       low = let m = P .rows in omega arith
@@ -97,8 +97,8 @@ module _ (t : List ℕ) (n : ℕ) (P : Passing t n) where
       further (inl e) = inl (ap (bodyOf t) e ∙ at-rim t (S .all-shut))
       further (inr q) = around-body t S (bodyOf t v) (q .0)
 
-      go : Dec (kindOf t v ≡ 4) → Dec (kindOf t v ≡ 6) → Dec (kindOf t v ≤ 1) → Body t (home t v)
-      go (yes e) d c = inr (subst (λ (x : ℕ). (x < size t) × (kindOf t x ≡ 4)) (sym (S .for-home v e)) (low, e))
+      go : Dec (kindAt t v ≡ 4) → Dec (kindAt t v ≡ 6) → Dec (kindAt t v ≤ 1) → Body t (home t v)
+      go (yes e) d c = inr (subst (λ (x : ℕ). (x < size t) × (kindAt t x ≡ 4)) (sym (S .for-home v e)) (low, e))
       go (no a) (yes e) c = subst (Body t) (sym (S .next-home v low e)) (further (around-body t S v low))
       go (no a) (no b) (yes c) = inl (S .start-home v c)
       go (no a) (no b) (no c) = subst (Body t) (sym (home-here t v (omega arith) a b)) (around-body t S v low)
@@ -177,7 +177,7 @@ module _ (t : List ℕ) (L : ℕ) where
   flag-or false b = refl
 
   -- a row that reads in the loop
-  pub row-marked : (r count : ℕ) {b : Bool} (before after : List ℕ) → Marks t L r before → b ≡ inside t L (reads t r) → b ≡ true → count ≡ operandCount (kindOf t r) → Marked t r count before after
+  pub row-marked : (r count : ℕ) {b : Bool} (before after : List ℕ) → Marks t L r before → b ≡ inside t L (reads t r) → b ≡ true → count ≡ operandCount (kindAt t r) → Marked t r count before after
       → Marks t L (r + 1) after
   row-marked r count before after M e y c D =
       record { long = D .long; mark = λ v h. D .mark v h ∙ ap₂ (λ (a : Bool) (x : ℕ). cond a 1 x) (all v) (M .mark v h) ∙ sym (ap flag (next-named v r) ∙ flag-or (inside t L (reads t r) && names t r v) (namedIn t L v r)) }

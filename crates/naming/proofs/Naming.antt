@@ -10,7 +10,7 @@ use borrow.Author.Tests.{ne-eqb}
 use lib.ListN.{length, getD, length-append}
 use lib.Seq.{sets}
 use Rattle.graph.specs.Below.{joined}
-use Rattle.table.specs.Rows.{kindOf, size}
+use Rattle.table.specs.Rows.{kindAt, size}
 use Rattle.lowered.specs.Gathered.{each}
 use Rattle.lowered.specs.Sources.{isOp}
 use Rattle.laid.specs.Listed.{op-roles, for-roles, arg-roles}
@@ -99,22 +99,22 @@ module _ (t : List ℕ) where
   unfolding each
   op-names r h = ap (each roleName) (op-roles t r h)
 
-  pub op-row-names : (r : ℕ) → kindOf t r ≡ 2 → rowNames t r ≡ 0 ∷ r ∷ 0 ∷ []
+  pub op-row-names : (r : ℕ) → kindAt t r ≡ 2 → rowNames t r ≡ 0 ∷ r ∷ 0 ∷ []
   op-row-names r k = op-names r (rw k)
 
-  pub pick-row-names : (r : ℕ) → kindOf t r ≡ 3 → rowNames t r ≡ 0 ∷ r ∷ 0 ∷ []
+  pub pick-row-names : (r : ℕ) → kindAt t r ≡ 3 → rowNames t r ≡ 0 ∷ r ∷ 0 ∷ []
   pick-row-names r k = op-names r (rw k)
 
-  pub arg-row-names : (r : ℕ) → kindOf t r ≡ 5 → rowNames t r ≡ 6 ∷ r ∷ 0 ∷ 7 ∷ r ∷ 0 ∷ []
+  pub arg-row-names : (r : ℕ) → kindAt t r ≡ 5 → rowNames t r ≡ 6 ∷ r ∷ 0 ∷ 7 ∷ r ∷ 0 ∷ []
   unfolding each
   arg-row-names r k = ap (each roleName) (arg-roles t r k)
 
-  pub other-row-names : (r : ℕ) → kindOf t r ≢ 2 → kindOf t r ≢ 3 → kindOf t r ≢ 4 → kindOf t r ≢ 5 → rowNames t r ≡ []
+  pub other-row-names : (r : ℕ) → kindAt t r ≢ 2 → kindAt t r ≢ 3 → kindAt t r ≢ 4 → kindAt t r ≢ 5 → rowNames t r ≡ []
   unfolding each
   other-row-names r a b c d = ap (each roleName) (no-roles t r a b c d)
 
   -- a loop's own nodes, then its copies
-  pub loop-names : (n L : ℕ) → n ≡ size t → kindOf t L ≡ 4 → rowNames t L ≡ (1 ∷ L ∷ 0 ∷ 2 ∷ L ∷ 0 ∷ 3 ∷ L ∷ 0 ∷ []) ++ joined (copyNames t L) n
+  pub loop-names : (n L : ℕ) → n ≡ size t → kindAt t L ≡ 4 → rowNames t L ≡ (1 ∷ L ∷ 0 ∷ 2 ∷ L ∷ 0 ∷ 3 ∷ L ∷ 0 ∷ []) ++ joined (copyNames t L) n
   unfolding each
   loop-names n L e k =
       ap (each roleName) (for-roles t L k)
@@ -129,7 +129,7 @@ three-names a b c a′ b′ c′ a″ b″ c″ zs l at h1 h2 h3 h4 =
     (two-written (a ∷ b ∷ c ∷ []) (a′ ∷ b′ ∷ c′ ∷ []) l at (at + 3) h1 h2 refl) h3 refl) h4 refl
 
 -- the room for a loop's own names and for its copies
-pub loop-room : (t : List ℕ) (n L at : ℕ) {most : ℕ} → n ≡ size t → kindOf t L ≡ 4 → at + length (rowNames t L) ≤ most → at + 9 + length (joined (copyNames t L) n) ≤ most
+pub loop-room : (t : List ℕ) (n L at : ℕ) {most : ℕ} → n ≡ size t → kindAt t L ≡ 4 → at + length (rowNames t L) ≤ most → at + 9 + length (joined (copyNames t L) n) ≤ most
 loop-room t n L at e k h =
     let r = room-as (loop-names t n L e k) at h in
     let a = length-append (1 ∷ L ∷ 0 ∷ 2 ∷ L ∷ 0 ∷ 3 ∷ L ∷ 0 ∷ []) (joined (copyNames t L) n) in

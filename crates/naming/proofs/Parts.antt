@@ -17,7 +17,7 @@ use lib.ListN.{length, getD, getElem?}
 use lib.Seq.{sets, length-sets}
 use Rattle.step.specs.Kinds.{OP, PICK, outputs}
 use Rattle.graph.specs.Below.{joined}
-use Rattle.table.specs.Rows.{kindOf, size}
+use Rattle.table.specs.Rows.{kindAt, size}
 use Rattle.structure.specs.Structure.{Structure}
 use Rattle.lowered.specs.Gathered.{gathered, those, each}
 use Rattle.lowered.specs.Lists.{in-range, has-elem}
@@ -71,7 +71,7 @@ module _ (t : List ℕ) where
   -- the outputs of a node, from its name
   pub outputs-by-name : (n : Role) → each wireName (roleOutputs t n) ≡ outputNames (roleNumber n) (roleRow n) (carriedRow n)
   unfolding each firstWhat twoOutputs
-  outputs-by-name (opNode r) = one (eqb (kindOf t r) 2)
+  outputs-by-name (opNode r) = one (eqb (kindAt t r) 2)
     where
       one : (b : Bool) → each wireName (outputsBy (opNode r) (outputs (cond b OP PICK))) ≡ 1 ∷ r ∷ 0 ∷ []
       one true = refl

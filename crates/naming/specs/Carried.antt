@@ -14,7 +14,7 @@ use mathlib.Core.List.{List}
 use lib.Dec.{eqb}
 use lib.ListN.{length, getD}
 use Rattle.word.specs.Words.{flag}
-use Rattle.table.specs.Rows.{kindOf, size}
+use Rattle.table.specs.Rows.{kindAt, size}
 use Rattle.table.specs.Scan.{reads}
 use Rattle.table.specs.Bodies.{operand}
 use Rattle.lowered.specs.Gathered.{some?}
@@ -23,7 +23,7 @@ use Rattle.forking.specs.Tallied.{Below}
 use Rattle.lowered.specs.Sources.{inside, names}
 
 abbrev pub Body : List ℕ → ℕ → Type 0
-Body t b = (b ≡ size t) ⊎ ((b < size t) × (kindOf t b ≡ 4))
+Body t b = (b ≡ size t) ⊎ ((b < size t) × (kindAt t b ≡ 4))
 
 -- the first operands of row r, so many of them, are marked
 pub record Marked (t : List ℕ) (r count : ℕ) (before after : List ℕ) : Type 0 where

@@ -7,7 +7,7 @@ ghost use lib.Dec.{leb};
 ghost use lib.ListN.{length, getD};
 ghost use lib.Seq.{sets};
 ghost use Rattle.graph.specs.Below.{joined};
-ghost use Rattle.table.specs.Rows.{kindOf, size};
+ghost use Rattle.table.specs.Rows.{kindAt, size};
 ghost use Rattle.table.specs.Bodies.{operand};
 ghost use Rattle.lowered.specs.Sources as sources;
 ghost use Rattle.lowered.specs.Sources.{carried};
@@ -59,7 +59,7 @@ const DRAINED: u32 = 32;
 
 // Whether body b is loop l, or lies in it: outward from b.
 fn lies_in(table: &[u32], n: u32, bodies: &[u32; 512], l: u32, b: u32) -> bool
-    requires { ⌜ Passing (now table) n × Bodies (now table) n (now bodies) × (l < n) × (kindOf (now table) l ≡ 4) × Body (now table) b ⌝ }
+    requires { ⌜ Passing (now table) n × Bodies (now table) n (now bodies) × (l < n) × (kindAt (now table) l ≡ 4) × Body (now table) b ⌝ }
     ensures { λ r. ⌜ r ≡ sources.inside (now (table .entry)) l b ⌝ }
 {
     let mut x = b;
@@ -87,7 +87,7 @@ fn mark_operands(table: &[u32], r: u32, count: u32, marks: &mut [u32; 512])
 
 // Marks what row r names, where it reads in loop l.
 fn mark_row(table: &[u32], n: u32, bodies: &[u32; 512], l: u32, r: u32, marks: &mut [u32; 512])
-    requires { ⌜ Passing (now table) n × Bodies (now table) n (now bodies) × (l < n) × (kindOf (now table) l ≡ 4) × (r < n) × Marks (now table) l r (now marks) ⌝ }
+    requires { ⌜ Passing (now table) n × Bodies (now table) n (now bodies) × (l < n) × (kindAt (now table) l ≡ 4) × (r < n) × Marks (now table) l r (now marks) ⌝ }
     ensures { λ u. ⌜ Marks (now (table .entry)) l (r + 1) (now (marks .exit)) ⌝ }
 {
     let b = carrying::reads_of(table, bodies, r);
@@ -99,7 +99,7 @@ fn mark_row(table: &[u32], n: u32, bodies: &[u32; 512], l: u32, r: u32, marks: &
 
 // The values that are named in loop l.
 pub fn mark_loop(table: &[u32], n: u32, bodies: &[u32; 512], l: u32) -> [u32; 512]
-    requires { ⌜ Passing (now table) n × Bodies (now table) n (now bodies) × (l < n) × (kindOf (now table) l ≡ 4) ⌝ }
+    requires { ⌜ Passing (now table) n × Bodies (now table) n (now bodies) × (l < n) × (kindAt (now table) l ≡ 4) ⌝ }
     ensures { λ a. ⌜ Marks (now (table .entry)) l n a ⌝ }
 {
     let mut marks = [0u32; 512];
@@ -120,7 +120,7 @@ pub fn is_carried(
     l: u32,
     v: u32,
 ) -> bool
-    requires { ⌜ Passing (now table) n × Bodies (now table) n (now bodies) × (l < n) × (kindOf (now table) l ≡ 4) × (v < n) × Marks (now table) l n (now marks) ⌝ }
+    requires { ⌜ Passing (now table) n × Bodies (now table) n (now bodies) × (l < n) × (kindAt (now table) l ≡ 4) × (v < n) × Marks (now table) l n (now marks) ⌝ }
     ensures { λ r. ⌜ r ≡ carried (now (table .entry)) l v ⌝ }
 {
     let h = carrying::home_of(table, n, bodies, v);
@@ -141,7 +141,7 @@ fn name_copy(
     nodes: &mut [u32],
     at: usize,
 ) -> usize
-    requires { ⌜ Passing (now table) n × Bodies (now table) n (now bodies) × (l < n) × (kindOf (now table) l ≡ 4) × (v < n) × Marks (now table) l n (now marks) × (at + length (copyNames (now table) l v) ≤ length (now nodes)) ⌝ }
+    requires { ⌜ Passing (now table) n × Bodies (now table) n (now bodies) × (l < n) × (kindAt (now table) l ≡ 4) × (v < n) × Marks (now table) l n (now marks) × (at + length (copyNames (now table) l v) ≤ length (now nodes)) ⌝ }
     ensures { λ p. ⌜ (p ≡ at + length (copyNames (now (table .entry)) l v)) × (now (nodes .exit) ≡ sets (now (nodes .entry)) at (copyNames (now (table .entry)) l v)) ⌝ }
 {
     if is_carried(table, n, bodies, marks, l, v) {
@@ -161,7 +161,7 @@ fn name_copies(
     nodes: &mut [u32],
     at: usize,
 ) -> usize
-    requires { ⌜ Passing (now table) n × Bodies (now table) n (now bodies) × (l < n) × (kindOf (now table) l ≡ 4) × (at + length (joined (copyNames (now table) l) n) ≤ length (now nodes)) ⌝ }
+    requires { ⌜ Passing (now table) n × Bodies (now table) n (now bodies) × (l < n) × (kindAt (now table) l ≡ 4) × (at + length (joined (copyNames (now table) l) n) ≤ length (now nodes)) ⌝ }
     ensures { λ p. ⌜ (p ≡ at + length (joined (copyNames (now (table .entry)) l) n)) × (now (nodes .exit) ≡ sets (now (nodes .entry)) at (joined (copyNames (now (table .entry)) l) n)) ⌝ }
 {
     let marks = mark_loop(table, n, bodies, l);
@@ -183,7 +183,7 @@ fn name_loop(
     nodes: &mut [u32],
     at: usize,
 ) -> usize
-    requires { ⌜ Passing (now table) n × Bodies (now table) n (now bodies) × (l < n) × (kindOf (now table) l ≡ 4) × (at + length (rowNames (now table) l) ≤ length (now nodes)) ⌝ }
+    requires { ⌜ Passing (now table) n × Bodies (now table) n (now bodies) × (l < n) × (kindAt (now table) l ≡ 4) × (at + length (rowNames (now table) l) ≤ length (now nodes)) ⌝ }
     ensures { λ p. ⌜ (p ≡ at + length (rowNames (now (table .entry)) l)) × (now (nodes .exit) ≡ sets (now (nodes .entry)) at (rowNames (now (table .entry)) l)) ⌝ }
 {
     forking::three(nodes, at, STREAM, l, 0);

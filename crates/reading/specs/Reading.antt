@@ -11,7 +11,7 @@ use mathlib.Core.List.{List, [], _∷_, reverse}
 use lib.Dec.{eqb, ltb}
 use lib.ListN.{getD}
 use Rattle.word.specs.Words.{condition, update, operate}
-use Rattle.table.specs.Rows.{kindOf, word, size, INPUT, CONST, OUT}
+use Rattle.table.specs.Rows.{kindAt, word, size, INPUT, CONST, OUT}
 use Rattle.table.specs.Scan.{bodyOf}
 use Rattle.table.specs.Bodies.{Row, input, const, op, pick, for, arg, next, end, out, unknown, rowAt, endOf, firstOf, isArg, isNext, argOf, nextOf}
 
@@ -62,12 +62,12 @@ oneTurn L (o ∷ os) = cond (eqb (o .loop) L) (opening L (suc (o .turns)) ∷ os
 -- how many of the rows below r are INPUTs
 unfoldable pub inputsBelow : List ℕ → ℕ → ℕ
 inputsBelow t zero = 0
-inputsBelow t (suc r) = cond (eqb (kindOf t r) INPUT) (suc (inputsBelow t r)) (inputsBelow t r)
+inputsBelow t (suc r) = cond (eqb (kindAt t r) INPUT) (suc (inputsBelow t r)) (inputsBelow t r)
 
 -- 'the n-th INPUT has the n-th input word, a CONST its word, every other row 0'
 unfoldable pub firstWords : List ℕ → List ℕ → Env
 firstWords t inputs r =
-    cond (eqb (kindOf t r) INPUT) (getD inputs (inputsBelow t r) 0) (cond (eqb (kindOf t r) CONST) (word t r 1) 0)
+    cond (eqb (kindAt t r) INPUT) (getD inputs (inputsBelow t r) 0) (cond (eqb (kindAt t r) CONST) (word t r 1) 0)
 
 unfoldable pub begin : List ℕ → List ℕ → State
 begin t inputs = at 0 (firstWords t inputs) []
@@ -76,7 +76,7 @@ begin t inputs = at 0 (firstWords t inputs) []
 unfoldable pub resultsFrom : ℕ → List ℕ → Env → ℕ → List ℕ
 resultsFrom zero t env r = []
 resultsFrom (suc m) t env r =
-    cond (eqb (kindOf t r) OUT) (env (word t r 1) ∷ resultsFrom m t env (suc r)) (resultsFrom m t env (suc r))
+    cond (eqb (kindAt t r) OUT) (env (word t r 1) ∷ resultsFrom m t env (suc r)) (resultsFrom m t env (suc r))
 
 -- a turn of loop L begins: the index, and all ARGs together
 unfoldable pub turn : List ℕ → ℕ → ℕ → Env → Env → Env

@@ -11,7 +11,7 @@ use native.Mathlib.Omega.{arith}
 use borrow.Author.Tests.{eq-eqb, ne-eqb}
 use lib.Dec.{eqb}
 use lib.ListN.{length}
-use Rattle.table.specs.Rows.{kindOf, size}
+use Rattle.table.specs.Rows.{kindAt, size}
 use Rattle.table.specs.Scan.{Loop, inner, stackAt, bodyOf}
 use Rattle.table.specs.Right.{TableRight}
 use Rattle.structure.specs.Loops.{innermost}
@@ -43,6 +43,6 @@ module _ (t : List ℕ) (ok : TableRight t) where
   pub depth-falls : (b : ℕ) → b < size t → depth t b ≡ suc (depth t (bodyOf t b))
   depth-falls b l = loop-depth t b l ∙ ap suc (let e = depth-around b (omega arith) in omega arith)
 
-  pub eight-at-most : (b : ℕ) → (b ≡ size t) ⊎ ((b < size t) × (kindOf t b ≡ 4)) → depth t b ≤ 8
+  pub eight-at-most : (b : ℕ) → (b ≡ size t) ⊎ ((b < size t) × (kindAt t b ≡ 4)) → depth t b ≤ 8
   eight-at-most b (inl e) = let z : depth t b ≡ 0 = ap (depth t) e ∙ rim-depth t in omega arith
   eight-at-most b (inr h) = let z = loop-depth t b (h .0) in let r = loop-room t ok b (h .0) (h .1) in omega arith

@@ -11,7 +11,7 @@ use mathlib.Core.Path.{_≡_, refl, sym, ap, _∙_, subst, subst₂}
 use native.Mathlib.Omega.{arith}
 use native.Mathlib.Decide.{ℕ-discrete}
 use borrow.Author.Tests.{ltb-true}
-use Rattle.table.specs.Rows.{kindOf, size}
+use Rattle.table.specs.Rows.{kindAt, size}
 use Rattle.table.specs.Scan.{Loop, opened, oneArg, oneNext, atHead, outward, stackAt}
 use Rattle.table.specs.Check.{kindBefore, argLeft}
 use Rattle.table.specs.Kept.{entryOf}
@@ -20,23 +20,23 @@ use Rattle.structure.specs.Place.{behind-next, arg-behind, next-has-arg,
 
 -- the loops before row r are l and, around it, s
 pub record Head (t : List ℕ) (r : ℕ) (l : Loop) (s : List Loop) : Type 0 where
-  pub is-for : kindOf t (l .row) ≡ 4
+  pub is-for : kindAt t (l .row) ≡ 4
   pub around : stackAt t (l .row) ≡ s
   -- the rows directly behind FOR are its ARGs, as many as were counted
-  pub arg-rows : (a : ℕ) → l .row < a → a ≤ l .row + l .args → kindOf t a ≡ 5
-  pub shut : suc (l .row + l .args) < r → kindOf t (suc (l .row + l .args)) ≢ 5
+  pub arg-rows : (a : ℕ) → l .row < a → a ≤ l .row + l .args → kindAt t a ≡ 5
+  pub shut : suc (l .row + l .args) < r → kindAt t (suc (l .row + l .args)) ≢ 5
   pub header : (kindBefore t r ≡ 4) ⊎ (kindBefore t r ≡ 5) → r ≡ suc (l .row + l .args)
   -- the rows directly before r are its NEXTs, as many as were counted
   pub served : l .nexts ≤ l .args
   pub nexts-in : l .row + l .args + l .nexts < r
-  pub next-rows : (x j : ℕ) → x + l .nexts ≡ r + j → j < l .nexts → (kindOf t x ≡ 6) × (stackAt t x ≡ entryOf (l .row) (l .args) j ∷ s)
+  pub next-rows : (x j : ℕ) → x + l .nexts ≡ r + j → j < l .nexts → (kindAt t x ≡ 6) × (stackAt t x ≡ entryOf (l .row) (l .args) j ∷ s)
 
 not-both : {a b : Type 0} → (a → ⊥) → (b → ⊥) → a ⊎ b → ⊥
 not-both p q (inl x) = p x
 not-both p q (inr x) = q x
 
 module _ (t : List ℕ) where
-  before-suc : (r x : ℕ) → r ≡ suc x → kindBefore t r ≡ kindOf t x
+  before-suc : (r x : ℕ) → r ≡ suc x → kindBefore t r ≡ kindAt t x
   before-suc r x e = rw e
 
   -- a loop has NEXTs only directly behind one
@@ -55,7 +55,7 @@ module _ (t : List ℕ) where
           absurd (n (before-suc r (y .0) (y .1) ∙ h .next-rows (y .0) k (y .2) (omega arith) .0))
 
   -- FOR
-  by-for : (r : ℕ) → kindOf t r ≡ 4 → Head t (suc r) (opened r) (stackAt t r)
+  by-for : (r : ℕ) → kindAt t r ≡ 4 → Head t (suc r) (opened r) (stackAt t r)
   by-for r e =
       record {
         is-for = e;
@@ -69,7 +69,7 @@ module _ (t : List ℕ) where
       }
 
   -- ARG
-  by-arg : (r : ℕ) (l : Loop) (s : List Loop) → RowRight t r → kindOf t r ≡ 5 → Head t r l s → Head t (suc r) (oneArg l) s
+  by-arg : (r : ℕ) (l : Loop) (s : List Loop) → RowRight t r → kindAt t r ≡ 5 → Head t r l s → Head t (suc r) (oneArg l) s
   by-arg r l s ok e h =
       let at : r ≡ suc (l .row + l .args) = h .header (arg-behind t r ok e) in
       let z : l .nexts ≡ 0 = no-nexts r l s h (λ k. not-next (arg-behind t r ok e) k) in
@@ -92,7 +92,7 @@ module _ (t : List ℕ) where
       under a e n q = omega arith
 
   -- NEXT
-  by-next : (r : ℕ) (l : Loop) (s : List Loop) → stackAt t r ≡ l ∷ s → kindOf t r ≡ 6 → l .nexts < l .args → Head t r l s → Head t (suc r) (oneNext l) s
+  by-next : (r : ℕ) (l : Loop) (s : List Loop) → stackAt t r ≡ l ∷ s → kindAt t r ≡ 6 → l .nexts < l .args → Head t r l s → Head t (suc r) (oneNext l) s
   by-next r l s es e left h =
       record {
         is-for = h .is-for;
@@ -105,16 +105,16 @@ module _ (t : List ℕ) where
         next-rows = λ x j p q. elim (ℕ-discrete j (l .nexts)) [ yes y ↦ this x j p y | no y ↦ h .next-rows x j (shift x j p) (below j y q) ];
       }
     where
-      differ : suc (l .row + l .args) ≡ r → kindOf t (suc (l .row + l .args)) ≡ 5 → ⊥
-      differ y z = let q : kindOf t r ≡ 5 = subst (λ (a : ℕ). kindOf t a ≡ 5) y z in omega arith
+      differ : suc (l .row + l .args) ≡ r → kindAt t (suc (l .row + l .args)) ≡ 5 → ⊥
+      differ y z = let q : kindAt t r ≡ 5 = subst (λ (a : ℕ). kindAt t a ≡ 5) y z in omega arith
 
       under : suc (l .row + l .args) ≢ r → suc (l .row + l .args) < suc r → suc (l .row + l .args) < r
       under y p = omega arith
 
-      wrong4 : kindOf t r ≡ 4 → ⊥
+      wrong4 : kindAt t r ≡ 4 → ⊥
       wrong4 z = omega arith
 
-      wrong5 : kindOf t r ≡ 5 → ⊥
+      wrong5 : kindAt t r ≡ 5 → ⊥
       wrong5 z = omega arith
 
       shift : (x j : ℕ) → x + (l .nexts + 1) ≡ suc r + j → x + l .nexts ≡ r + j
@@ -123,18 +123,18 @@ module _ (t : List ℕ) where
       below : (j : ℕ) → j ≢ l .nexts → j < l .nexts + 1 → j < l .nexts
       below j y q = omega arith
 
-      this : (x j : ℕ) → x + (l .nexts + 1) ≡ suc r + j → j ≡ l .nexts → (kindOf t x ≡ 6) × (stackAt t x ≡ entryOf (l .row) (l .args) j ∷ s)
+      this : (x j : ℕ) → x + (l .nexts + 1) ≡ suc r + j → j ≡ l .nexts → (kindAt t x ≡ 6) × (stackAt t x ≡ entryOf (l .row) (l .args) j ∷ s)
       this x j p y = let q : x ≡ r = omega arith in (rw q e, rw (q, y) es)
 
   -- a row that leaves the stack alone
-  by-other : (r : ℕ) (l : Loop) (s : List Loop) → RowRight t r → kindOf t r ≢ 4 → kindOf t r ≢ 5 → kindOf t r ≢ 6 → kindOf t r ≢ 7 → Head t r l s → Head t (suc r) l s
+  by-other : (r : ℕ) (l : Loop) (s : List Loop) → RowRight t r → kindAt t r ≢ 4 → kindAt t r ≢ 5 → kindAt t r ≢ 6 → kindAt t r ≢ 7 → Head t r l s → Head t (suc r) l s
   by-other r l s ok n4 n5 n6 n7 h =
       let z : l .nexts ≡ 0 = no-nexts r l s h (λ b. not-both n6 n7 (behind-next t r ok b)) in
       record {
         is-for = h .is-for;
         around = h .around;
         arg-rows = h .arg-rows;
-        shut = λ p. elim (ℕ-discrete (suc (l .row + l .args)) r) [ yes y ↦ (λ z. n5 (subst (λ (a : ℕ). kindOf t a ≡ 5) y z)) | no y ↦ h .shut (under y p) ];
+        shut = λ p. elim (ℕ-discrete (suc (l .row + l .args)) r) [ yes y ↦ (λ z. n5 (subst (λ (a : ℕ). kindAt t a ≡ 5) y z)) | no y ↦ h .shut (under y p) ];
         header = λ p. absurd (not-both n4 n5 p);
         served = h .served;
         nexts-in = omega (arith, h .nexts-in);
@@ -145,7 +145,7 @@ module _ (t : List ℕ) where
       under y p = omega arith
 
   -- END uncovers a loop l, of which all was known before the FOR at row b that covered it
-  by-end : (r b : ℕ) (l : Loop) (s : List Loop) → RowRight t b → kindOf t b ≡ 4 → b < r → kindOf t r ≡ 7 → Head t b l s → Head t (suc r) l s
+  by-end : (r b : ℕ) (l : Loop) (s : List Loop) → RowRight t b → kindAt t b ≡ 4 → b < r → kindAt t r ≡ 7 → Head t b l s → Head t (suc r) l s
   by-end r b l s ok eb less e h =
       let z : l .nexts ≡ 0 = no-nexts b l s h (λ k. not-both (λ q. omega arith) (λ q. omega arith) (behind-next t b ok k)) in
       record {
@@ -159,16 +159,16 @@ module _ (t : List ℕ) where
         next-rows = λ x j p q. absurd (omega arith);
       }
     where
-      differ : suc (l .row + l .args) ≡ b → kindOf t (suc (l .row + l .args)) ≡ 5 → ⊥
-      differ y z = let q : kindOf t b ≡ 5 = subst (λ (a : ℕ). kindOf t a ≡ 5) y z in omega arith
+      differ : suc (l .row + l .args) ≡ b → kindAt t (suc (l .row + l .args)) ≡ 5 → ⊥
+      differ y z = let q : kindAt t b ≡ 5 = subst (λ (a : ℕ). kindAt t a ≡ 5) y z in omega arith
 
       under : suc (l .row + l .args) ≢ b → l .row + l .args + l .nexts < b → suc (l .row + l .args) < b
       under y p = omega arith
 
-      wrong4 : kindOf t r ≡ 4 → ⊥
+      wrong4 : kindAt t r ≡ 4 → ⊥
       wrong4 z = omega arith
 
-      wrong5 : kindOf t r ≡ 5 → ⊥
+      wrong5 : kindAt t r ≡ 5 → ⊥
       wrong5 z = omega arith
 
   -- the head and the tail of a stack that is known
@@ -180,7 +180,7 @@ module _ (t : List ℕ) where
 
 module _ (t : List ℕ) (ok : TableRight t) where
   step : (r : ℕ) → suc r ≤ size t → ((x : ℕ) → x ≤ r → (l : Loop) (s : List Loop) → stackAt t x ≡ l ∷ s → Head t x l s)
-      → (l : Loop) (s : List Loop) → stackAt t (suc r) ≡ l ∷ s → Move (kindOf t r) → Head t (suc r) l s
+      → (l : Loop) (s : List Loop) → stackAt t (suc r) ≡ l ∷ s → Move (kindAt t r) → Head t (suc r) l s
   step r less IH l s e (opens k) = as-known t (suc r) (sym (stack-opens t r k) ∙ e) (by-for t r k)
   step r less IH l s e (counts k) = go (stackAt t r) refl
     where
@@ -212,7 +212,7 @@ module _ (t : List ℕ) (ok : TableRight t) where
       → (l : Loop) (s : List Loop) → stackAt t r ≡ l ∷ s → Head t r l s
   unfolding stackAt
   by-row m zero p q IH l s e = let w : _≡_ {A = ℕ} 0 1 = cc in absurd (omega arith)
-  by-row m (suc r) p q IH l s e = step r q (λ x h. IH x (omega arith) (omega arith)) l s e (move (kindOf t r))
+  by-row m (suc r) p q IH l s e = step r q (λ x h. IH x (omega arith) (omega arith)) l s e (move (kindAt t r))
 
   up-to : (m r : ℕ) → r ≤ m → r ≤ size t → (l : Loop) (s : List Loop) → stackAt t r ≡ l ∷ s → Head t r l s
   unfolding stackAt

@@ -11,7 +11,7 @@ use native.Mathlib.Decide.{ℕ-discrete}
 use borrow.Author.Tests.{eqb-true, ltb-true, leb-true}
 use lib.Dec.{eqb, leb, ltb}
 use lib.ListN.{length}
-use Rattle.table.specs.Rows.{kindOf, word, size, fieldAt}
+use Rattle.table.specs.Rows.{kindAt, word, size, fieldAt}
 use Rattle.table.specs.Scan.{Loop, oneArg, oneNext, atHead, outward, stackAt}
 use Rattle.table.specs.Check.{lengthRight, kindRight, codesFrom, codeRight, depthRight, kindBefore, outside, endRight}
 use Rattle.table.specs.Right.{TableRight}
@@ -45,23 +45,23 @@ module _ (t : List ℕ) (ok : TableRight t) where
   unfolding lengthRight
   at-most-512-rows = leb-true (size t) 512 (both (leb 1 (size t)) (leb (size t) 512) (both (eqb (length t % 6) 0) (leb 1 (size t) && leb (size t) 512) (ok .long) .1) .1)
 
-  pub known-kind : (r : ℕ) → r < size t → kindOf t r ≤ 8
+  pub known-kind : (r : ℕ) → r < size t → kindAt t r ≤ 8
   unfolding kindRight
-  known-kind r less = leb-true (kindOf t r) 8 (ok .row r less .kind)
+  known-kind r less = leb-true (kindAt t r) 8 (ok .row r less .kind)
 
   -- 'No other kind stands above an INPUT or CONST.'
-  pub starts-first : (r s : ℕ) → r < s → s < size t → kindOf t s ≤ 1 → kindOf t r ≤ 1
+  pub starts-first : (r s : ℕ) → r < s → s < size t → kindAt t s ≤ 1 → kindAt t r ≤ 1
   starts-first r zero less p k = absurd (omega arith)
   starts-first r (suc s) less p k =
       let IH = starts-first r s in
-      let here : kindOf t s ≤ 1 = start-behind t (suc s) (ok .row (suc s) p) k in
+      let here : kindAt t s ≤ 1 = start-behind t (suc s) (ok .row (suc s) p) k in
       elim (ℕ-discrete r s) [ yes e ↦ rw e here | no e ↦ IH (under r s e less) (omega arith) here ]
     where
       under : (a b : ℕ) → a ≢ b → a < suc b → a < b
       under a b e q = omega arith
 
   -- 'Below an OUT there are only OUTs.'
-  pub outs-last : (r s : ℕ) → r < s → s < size t → kindOf t r ≡ 8 → kindOf t s ≡ 8
+  pub outs-last : (r s : ℕ) → r < s → s < size t → kindAt t r ≡ 8 → kindAt t s ≡ 8
   outs-last r zero less p k = absurd (omega arith)
   outs-last r (suc s) less p k =
       let IH = outs-last r s in
@@ -70,52 +70,52 @@ module _ (t : List ℕ) (ok : TableRight t) where
       under : (a b : ℕ) → a ≢ b → a < suc b → a < b
       under a b e q = omega arith
 
-  pub ends-with-out : (r : ℕ) → suc r ≡ size t → kindOf t r ≡ 8
+  pub ends-with-out : (r : ℕ) → suc r ≡ size t → kindAt t r ≡ 8
   unfolding endRight
   ends-with-out r e =
       let h = both (outside (stackAt t (size t))) (eqb (kindBefore t (size t)) 8) (ok .ended) .1 in
-      eqb-true (kindOf t r) 8 (subst (λ (n : ℕ). eqb (kindBefore t n) 8 ≡ true) (sym e) h)
+      eqb-true (kindAt t r) 8 (subst (λ (n : ℕ). eqb (kindBefore t n) 8 ≡ true) (sym e) h)
 
   pub nothing-left-open : stackAt t (size t) ≡ []
   unfolding endRight
   nothing-left-open = empty (stackAt t (size t)) (both (outside (stackAt t (size t))) (eqb (kindBefore t (size t)) 8) (ok .ended) .0)
 
   -- 'An OUT stands in no loop', and neither do INPUT and CONST
-  pub out-outside : (r : ℕ) → r < size t → kindOf t r ≡ 8 → stackAt t r ≡ []
+  pub out-outside : (r : ℕ) → r < size t → kindAt t r ≡ 8 → stackAt t r ≡ []
   out-outside r less k = empty (stackAt t r) (out-is-outside t r (ok .row r less) k)
 
-  pub start-outside : (r : ℕ) → r < size t → kindOf t r ≤ 1 → stackAt t r ≡ []
+  pub start-outside : (r : ℕ) → r < size t → kindAt t r ≤ 1 → stackAt t r ≡ []
   unfolding stackAt
   start-outside zero less k = refl
   start-outside (suc r) less k =
-      let p : kindOf t r ≤ 1 = start-behind t (suc r) (ok .row (suc r) less) k in
+      let p : kindAt t r ≤ 1 = start-behind t (suc r) (ok .row (suc r) less) k in
       stack-stays t r (λ e. omega arith) (λ e. omega arith) (λ e. omega arith) (λ e. omega arith) ∙ start-outside r (omega arith) p
 
   -- a FOR stands where fewer than eight loops are open
-  pub loop-room : (r : ℕ) → r < size t → kindOf t r ≡ 4 → length (stackAt t r) < 8
+  pub loop-room : (r : ℕ) → r < size t → kindAt t r ≡ 4 → length (stackAt t r) < 8
   unfolding depthRight
   loop-room r less k = ltb-true (length (stackAt t r)) 8 (rw k at (ok .row r less .depth))
 
   pub at-most-eight-deep : (r : ℕ) → r ≤ size t → length (stackAt t r) ≤ 8
   unfolding stackAt
   at-most-eight-deep zero less = omega arith
-  at-most-eight-deep (suc r) less = go (at-most-eight-deep r (omega arith)) (move (kindOf t r))
+  at-most-eight-deep (suc r) less = go (at-most-eight-deep r (omega arith)) (move (kindAt t r))
     where
-      go : length (stackAt t r) ≤ 8 → Move (kindOf t r) → length (stackAt t (suc r)) ≤ 8
+      go : length (stackAt t r) ≤ 8 → Move (kindAt t r) → length (stackAt t (suc r)) ≤ 8
       go h (opens k) = rw (stack-opens t r k) (loop-room r less k)
       go h (counts k) = rw (stack-arg t r k, same-length oneArg (stackAt t r)) h
       go h (serves k) = rw (stack-next t r k, same-length oneNext (stackAt t r)) h
       go h (closes k) = rw (stack-closes t r k) (omega (arith, less-outward (stackAt t r)))
       go h (stays n4 n5 n6 n7) = rw (stack-stays t r n4 n5 n6 n7) h
 
-  pub op-code : (r : ℕ) → r < size t → kindOf t r ≡ 2 → word t r 1 ≤ 7
+  pub op-code : (r : ℕ) → r < size t → kindAt t r ≡ 2 → word t r 1 ≤ 7
   unfolding fieldAt codesFrom codeRight
   op-code r less k =
       let p = both (ltb (word t r 1) 8) true (rw k at (ok .row r less .code)) in
       let a = ltb-true (word t r 1) 8 (p .0) in
       omega arith
 
-  pub for-codes : (r : ℕ) → r < size t → kindOf t r ≡ 4 → (word t r 4 ≤ 5) × (word t r 5 ≤ 4)
+  pub for-codes : (r : ℕ) → r < size t → kindAt t r ≡ 4 → (word t r 4 ≤ 5) × (word t r 5 ≤ 4)
   unfolding fieldAt codesFrom codeRight
   for-codes r less k =
       let p = both (ltb (word t r 4) 6) (ltb (word t r 5) 5 && true) (rw k at (ok .row r less .code)) in

@@ -10,7 +10,7 @@ use native.Mathlib.Omega.{arith}
 use native.Mathlib.Decide.{ℕ-discrete, decLe}
 use borrow.Author.Tests.{ne-eqb, eqb-true, eqb-false, le-ltb, lt-ltb, le-leb, lt-leb, ltb-false}
 use lib.Dec.{eqb, leb, ltb}
-use Rattle.table.specs.Rows.{kindOf, size}
+use Rattle.table.specs.Rows.{kindAt, size}
 use Rattle.table.specs.Scan.{stackAt}
 use Rattle.table.specs.Check.{LENGTH, KIND, SPARE, CODE, PLACE, DEPTH, NAME, TYPE, OPEN, lengthRight, kindRight, spareRight, codeRight, kindBefore, follows, stands, placeRight, depthRight, namesRight, typesRight, outside, endRight, orElse, rowRefusal, Refusal, answer, rowsFrom, tableRefusal}
 use Rattle.table.specs.Right.{RowRight, passing-row-is-right}
@@ -19,12 +19,12 @@ use Rattle.structure.specs.Place.{behind-out, start-behind}
 -- a row above r is neither INPUT nor CONST
 unfoldable pub otherBefore : List ℕ → ℕ → Bool
 otherBefore t zero = false
-otherBefore t (suc r) = ltb 1 (kindOf t r) || otherBefore t r
+otherBefore t (suc r) = ltb 1 (kindAt t r) || otherBefore t r
 
 -- a row above r is an OUT
 unfoldable pub outBefore : List ℕ → ℕ → Bool
 outBefore t zero = false
-outBefore t (suc r) = eqb (kindOf t r) 8 || outBefore t r
+outBefore t (suc r) = eqb (kindAt t r) 8 || outBefore t r
 
 -- if the first then the second
 abbrev pub implies : Bool → Bool → Bool
@@ -35,11 +35,11 @@ implies a b = not a || b
 -- What is said of the open loops is `stands`.
 unfoldable pub paperPlace : List ℕ → ℕ → Bool
 paperPlace t r =
-    implies (leb (kindOf t r) 1) (not (otherBefore t r))
-    && (implies (eqb (kindOf t r) 5) (eqb (kindBefore t r) 4 || eqb (kindBefore t r) 5)
-    && (implies (eqb (kindBefore t r) 6) (eqb (kindOf t r) 6 || eqb (kindOf t r) 7)
-    && implies (outBefore t r) (eqb (kindOf t r) 8)))
-    && stands (kindOf t r) (stackAt t r)
+    implies (leb (kindAt t r) 1) (not (otherBefore t r))
+    && (implies (eqb (kindAt t r) 5) (eqb (kindBefore t r) 4 || eqb (kindBefore t r) 5)
+    && (implies (eqb (kindBefore t r) 6) (eqb (kindAt t r) 6 || eqb (kindAt t r) 7)
+    && implies (outBefore t r) (eqb (kindAt t r) 8)))
+    && stands (kindAt t r) (stackAt t r)
 
 -- ---- the rules over bare kinds: b of the row before, k of the row
 near : ℕ → ℕ → Bool
@@ -103,27 +103,27 @@ module _ (t : List ℕ) where
   others-told : (r : ℕ) → ((x : ℕ) → x < r → RowRight t x) → otherBefore t r ≡ ltb 1 (kindBefore t r)
   unfolding otherBefore
   others-told zero ok = sym (le-ltb 1 0 (omega arith))
-  others-told (suc r) ok = ap (λ (b : Bool). ltb 1 (kindOf t r) || b) (others-told r (λ x h. ok x (omega arith))) ∙ go (ltb 1 (kindOf t r)) refl
+  others-told (suc r) ok = ap (λ (b : Bool). ltb 1 (kindAt t r) || b) (others-told r (λ x h. ok x (omega arith))) ∙ go (ltb 1 (kindAt t r)) refl
     where
-      go : (c : Bool) → ltb 1 (kindOf t r) ≡ c → (c || ltb 1 (kindBefore t r)) ≡ c
+      go : (c : Bool) → ltb 1 (kindAt t r) ≡ c → (c || ltb 1 (kindBefore t r)) ≡ c
       go true e = refl
-      go false e = le-ltb 1 (kindBefore t r) (start-behind t r (ok r (omega arith)) (ltb-false 1 (kindOf t r) e))
+      go false e = le-ltb 1 (kindBefore t r) (start-behind t r (ok r (omega arith)) (ltb-false 1 (kindAt t r) e))
 
   outs-told : (r : ℕ) → ((x : ℕ) → x < r → RowRight t x) → outBefore t r ≡ eqb (kindBefore t r) 8
   unfolding outBefore
   outs-told zero ok = refl
-  outs-told (suc r) ok = ap (λ (b : Bool). eqb (kindOf t r) 8 || b) (outs-told r (λ x h. ok x (omega arith))) ∙ go (eqb (kindOf t r) 8) (eqb (kindBefore t r) 8) refl refl
+  outs-told (suc r) ok = ap (λ (b : Bool). eqb (kindAt t r) 8 || b) (outs-told r (λ x h. ok x (omega arith))) ∙ go (eqb (kindAt t r) 8) (eqb (kindBefore t r) 8) refl refl
     where
-      go : (c d : Bool) → eqb (kindOf t r) 8 ≡ c → eqb (kindBefore t r) 8 ≡ d → (c || d) ≡ c
+      go : (c d : Bool) → eqb (kindAt t r) 8 ≡ c → eqb (kindBefore t r) 8 ≡ d → (c || d) ≡ c
       go true d e f = refl
       go false false e f = refl
-      go false true e f = let z = behind-out t r (ok r (omega arith)) (eqb-true (kindBefore t r) 8 f) in absurd (eqb-false (kindOf t r) 8 e z)
+      go false true e f = let z = behind-out t r (ok r (omega arith)) (eqb-true (kindBefore t r) 8 f) in absurd (eqb-false (kindAt t r) 8 e z)
 
   -- PLACE IS WHAT THE RULES SAY OF ALL ROWS ABOVE
   pub the-papers-place : (r : ℕ) → ((x : ℕ) → x < r → RowRight t x) → placeRight t r ≡ paperPlace t r
   unfolding placeRight paperPlace near
   the-papers-place r ok =
-      rw (others-told r ok, outs-told r ok) (ap (λ (b : Bool). b && stands (kindOf t r) (stackAt t r)) (sym (near-follows (kindBefore t r) (kindOf t r))))
+      rw (others-told r ok, outs-told r ok) (ap (λ (b : Bool). b && stands (kindAt t r) (stackAt t r)) (sym (near-follows (kindBefore t r) (kindAt t r))))
 
 -- ---- the refusal with these rules of place, and with an OUT anywhere
 unfoldable pub paperRow : List ℕ → ℕ → ℕ

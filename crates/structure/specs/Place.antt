@@ -11,7 +11,7 @@ use native.Mathlib.Omega.{arith}
 use native.Mathlib.Decide.{ℕ-discrete}
 use borrow.Author.Tests.{eqb-true, leb-true, ne-eqb, le-leb}
 use lib.Dec.{eqb}
-use Rattle.table.specs.Rows.{kindOf}
+use Rattle.table.specs.Rows.{kindAt}
 use Rattle.table.specs.Scan.{opened, oneArg, oneNext, atHead, outward, after, stackAt}
 use Rattle.table.specs.Check.{kindBefore, follows, argLeft, allServed, outside, stands, placeRight}
 use Rattle.table.specs.Right.{RowRight}
@@ -57,39 +57,39 @@ then-start b k l h =
     leb-true b 1 (pick-no (eqb b 6) (pick-no (eqb b 8) a))
 
 module _ (t : List ℕ) (r : ℕ) (ok : RowRight t r) where
-  neighbours : follows (kindBefore t r) (kindOf t r) ≡ true
+  neighbours : follows (kindBefore t r) (kindAt t r) ≡ true
   unfolding placeRight
-  neighbours = both (follows (kindBefore t r) (kindOf t r)) (stands (kindOf t r) (stackAt t r)) (ok .place) .0
+  neighbours = both (follows (kindBefore t r) (kindAt t r)) (stands (kindAt t r) (stackAt t r)) (ok .place) .0
 
-  standing : stands (kindOf t r) (stackAt t r) ≡ true
+  standing : stands (kindAt t r) (stackAt t r) ≡ true
   unfolding placeRight
-  standing = both (follows (kindBefore t r) (kindOf t r)) (stands (kindOf t r) (stackAt t r)) (ok .place) .1
+  standing = both (follows (kindBefore t r) (kindAt t r)) (stands (kindAt t r) (stackAt t r)) (ok .place) .1
 
   -- 'Behind a NEXT stands another NEXT or the END'
-  pub behind-next : kindBefore t r ≡ 6 → (kindOf t r ≡ 6) ⊎ (kindOf t r ≡ 7)
-  behind-next e = next-then (kindOf t r) (rw e at neighbours)
+  pub behind-next : kindBefore t r ≡ 6 → (kindAt t r ≡ 6) ⊎ (kindAt t r ≡ 7)
+  behind-next e = next-then (kindAt t r) (rw e at neighbours)
 
   -- 'Below an OUT there are only OUTs.'
-  pub behind-out : kindBefore t r ≡ 8 → kindOf t r ≡ 8
-  behind-out e = out-then (kindOf t r) (rw e at neighbours)
+  pub behind-out : kindBefore t r ≡ 8 → kindAt t r ≡ 8
+  behind-out e = out-then (kindAt t r) (rw e at neighbours)
 
   -- 'The ARGs of a loop stand directly behind its FOR.'
-  pub arg-behind : kindOf t r ≡ 5 → (kindBefore t r ≡ 4) ⊎ (kindBefore t r ≡ 5)
+  pub arg-behind : kindAt t r ≡ 5 → (kindBefore t r ≡ 4) ⊎ (kindBefore t r ≡ 5)
   arg-behind e = then-arg (kindBefore t r) (rw e at neighbours)
 
   -- 'No other kind stands above an INPUT or CONST.'
-  pub start-behind : kindOf t r ≤ 1 → kindBefore t r ≤ 1
-  start-behind l = then-start (kindBefore t r) (kindOf t r) l neighbours
+  pub start-behind : kindAt t r ≤ 1 → kindBefore t r ≤ 1
+  start-behind l = then-start (kindBefore t r) (kindAt t r) l neighbours
 
-  pub next-has-arg : kindOf t r ≡ 6 → argLeft (stackAt t r) ≡ true
+  pub next-has-arg : kindAt t r ≡ 6 → argLeft (stackAt t r) ≡ true
   unfolding stands
   next-has-arg e = rw e at standing
 
-  pub end-is-served : kindOf t r ≡ 7 → allServed (stackAt t r) ≡ true
+  pub end-is-served : kindAt t r ≡ 7 → allServed (stackAt t r) ≡ true
   unfolding stands
   end-is-served e = rw e at standing
 
-  pub out-is-outside : kindOf t r ≡ 8 → outside (stackAt t r) ≡ true
+  pub out-is-outside : kindAt t r ≡ 8 → outside (stackAt t r) ≡ true
   unfolding stands
   out-is-outside e = rw e at standing
 
@@ -118,22 +118,22 @@ move k =
     ]
 
 module _ (t : List ℕ) (r : ℕ) where
-  pub stack-opens : kindOf t r ≡ 4 → stackAt t (suc r) ≡ opened r ∷ stackAt t r
+  pub stack-opens : kindAt t r ≡ 4 → stackAt t (suc r) ≡ opened r ∷ stackAt t r
   unfolding stackAt after
   stack-opens e = rw e
 
-  pub stack-arg : kindOf t r ≡ 5 → stackAt t (suc r) ≡ atHead oneArg (stackAt t r)
+  pub stack-arg : kindAt t r ≡ 5 → stackAt t (suc r) ≡ atHead oneArg (stackAt t r)
   unfolding stackAt after
   stack-arg e = rw e
 
-  pub stack-next : kindOf t r ≡ 6 → stackAt t (suc r) ≡ atHead oneNext (stackAt t r)
+  pub stack-next : kindAt t r ≡ 6 → stackAt t (suc r) ≡ atHead oneNext (stackAt t r)
   unfolding stackAt after
   stack-next e = rw e
 
-  pub stack-closes : kindOf t r ≡ 7 → stackAt t (suc r) ≡ outward (stackAt t r)
+  pub stack-closes : kindAt t r ≡ 7 → stackAt t (suc r) ≡ outward (stackAt t r)
   unfolding stackAt after
   stack-closes e = rw e
 
-  pub stack-stays : kindOf t r ≢ 4 → kindOf t r ≢ 5 → kindOf t r ≢ 6 → kindOf t r ≢ 7 → stackAt t (suc r) ≡ stackAt t r
+  pub stack-stays : kindAt t r ≢ 4 → kindAt t r ≢ 5 → kindAt t r ≢ 6 → kindAt t r ≢ 7 → stackAt t (suc r) ≡ stackAt t r
   unfolding stackAt after
-  stack-stays n4 n5 n6 n7 = rw (ne-eqb (kindOf t r) 4 n4, ne-eqb (kindOf t r) 5 n5, ne-eqb (kindOf t r) 6 n6, ne-eqb (kindOf t r) 7 n7)
+  stack-stays n4 n5 n6 n7 = rw (ne-eqb (kindAt t r) 4 n4, ne-eqb (kindAt t r) 5 n5, ne-eqb (kindAt t r) 6 n6, ne-eqb (kindAt t r) 7 n7)

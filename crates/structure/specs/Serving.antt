@@ -10,7 +10,7 @@ use native.Mathlib.Omega.{arith}
 use native.Mathlib.Decide.{ℕ-discrete}
 use borrow.Author.Tests.{eqb-true, ne-eqb, ltb-true}
 use lib.Dec.{eqb}
-use Rattle.table.specs.Rows.{kindOf, size}
+use Rattle.table.specs.Rows.{kindAt, size}
 use Rattle.table.specs.Scan.{Loop, opened, oneArg, oneNext, atHead, outward, stackAt, bodyOf}
 use Rattle.table.specs.Check.{kindBefore, argLeft, allServed}
 use Rattle.table.specs.Kept.{entryOf}
@@ -22,17 +22,17 @@ use Rattle.structure.specs.Spans.{member-here, nonempty, body-is, span, 
 
 module _ (t : List ℕ) where
   -- so many ARGs and then another kind are counted as so many
-  pub args-counted : (m r k : ℕ) → k < m → ((a : ℕ) → r ≤ a → a < r + k → kindOf t a ≡ 5) → kindOf t (r + k) ≢ 5 → argsFrom m t r ≡ k
+  pub args-counted : (m r k : ℕ) → k < m → ((a : ℕ) → r ≤ a → a < r + k → kindAt t a ≡ 5) → kindAt t (r + k) ≢ 5 → argsFrom m t r ≡ k
   unfolding argsFrom
   args-counted zero r k less all other = absurd (omega arith)
   args-counted (suc m) r zero less all other =
-      let e : r + 0 ≡ r = omega arith in rw (ne-eqb (kindOf t r) 5 (λ q. other (subst (λ (x : ℕ). kindOf t x ≡ 5) (sym e) q)))
+      let e : r + 0 ≡ r = omega arith in rw (ne-eqb (kindAt t r) 5 (λ q. other (subst (λ (x : ℕ). kindAt t x ≡ 5) (sym e) q)))
   args-counted (suc m) r (suc k) less all other =
       let e : r + suc k ≡ suc r + k = omega arith in
-      rw (all r (omega arith) (omega arith)) (ap suc (args-counted m (suc r) k (omega arith) (λ a p q. all a (omega arith) (omega arith)) (λ q. other (subst (λ (x : ℕ). kindOf t x ≡ 5) (sym e) q))))
+      rw (all r (omega arith) (omega arith)) (ap suc (args-counted m (suc r) k (omega arith) (λ a p q. all a (omega arith) (omega arith)) (λ q. other (subst (λ (x : ℕ). kindAt t x ≡ 5) (sym e) q))))
 
   -- so many ARGs are counted as so many at least
-  pub args-least : (m r k : ℕ) → k ≤ m → ((a : ℕ) → r ≤ a → a < r + k → kindOf t a ≡ 5) → k ≤ argsFrom m t r
+  pub args-least : (m r k : ℕ) → k ≤ m → ((a : ℕ) → r ≤ a → a < r + k → kindAt t a ≡ 5) → k ≤ argsFrom m t r
   unfolding argsFrom
   args-least m r zero less all = omega arith
   args-least zero r (suc k) less all = absurd (omega arith)
@@ -41,21 +41,21 @@ module _ (t : List ℕ) where
       rw (all r (omega arith) (omega arith)) (omega arith)
 
   -- what is counted is an ARG
-  pub args-are : (m r a : ℕ) → r ≤ a → a < r + argsFrom m t r → kindOf t a ≡ 5
+  pub args-are : (m r a : ℕ) → r ≤ a → a < r + argsFrom m t r → kindAt t a ≡ 5
   unfolding argsFrom
   args-are zero r a p q = absurd (omega arith)
-  args-are (suc m) r a p q = go (eqb (kindOf t r) 5) refl q (args-are m (suc r) a)
+  args-are (suc m) r a p q = go (eqb (kindAt t r) 5) refl q (args-are m (suc r) a)
     where
-      go : (b : Bool) → eqb (kindOf t r) 5 ≡ b → a < r + cond b (suc (argsFrom m t (suc r))) 0
-          → (suc r ≤ a → a < suc r + argsFrom m t (suc r) → kindOf t a ≡ 5) → kindOf t a ≡ 5
-      go true e q IH = elim (ℕ-discrete a r) [ yes y ↦ rw y (eqb-true (kindOf t r) 5 e) | no y ↦ IH (up y p) (omega arith) ]
+      go : (b : Bool) → eqb (kindAt t r) 5 ≡ b → a < r + cond b (suc (argsFrom m t (suc r))) 0
+          → (suc r ≤ a → a < suc r + argsFrom m t (suc r) → kindAt t a ≡ 5) → kindAt t a ≡ 5
+      go true e q IH = elim (ℕ-discrete a r) [ yes y ↦ rw y (eqb-true (kindAt t r) 5 e) | no y ↦ IH (up y p) (omega arith) ]
         where
           up : a ≢ r → r ≤ a → suc r ≤ a
           up y p = omega arith
       go false e q IH = absurd (omega arith)
 
   -- the loops inside the header of L: L with the ARGs so far
-  pub header-stack : (L j : ℕ) → kindOf t L ≡ 4 → ((a : ℕ) → L < a → a < suc L + j → kindOf t a ≡ 5) → stackAt t (suc L + j) ≡ entryOf L j 0 ∷ stackAt t L
+  pub header-stack : (L j : ℕ) → kindAt t L ≡ 4 → ((a : ℕ) → L < a → a < suc L + j → kindAt t a ≡ 5) → stackAt t (suc L + j) ≡ entryOf L j 0 ∷ stackAt t L
   header-stack L zero k all = let e : suc L + 0 ≡ suc L = omega arith in rw e (stack-opens t L k)
   header-stack L (suc j) k all =
       let e : suc L + suc j ≡ suc (suc L + j) = omega arith in
@@ -64,11 +64,11 @@ module _ (t : List ℕ) where
       rw e (stack-arg t (suc L + j) (all (suc L + j) (omega arith) (omega arith)) ∙ ap (atHead oneArg) IH ∙ ap (λ (n : ℕ). entryOf L n 0 ∷ stackAt t L) one)
 
   -- the rows between a FOR and the first row of its body are ARGs of that loop
-  pub header-rows : (L x : ℕ) → L < x → x < firstOf t L → kindOf t x ≡ 5
+  pub header-rows : (L x : ℕ) → L < x → x < firstOf t L → kindAt t x ≡ 5
   unfolding firstOf argsOf
   header-rows L x p q = args-are (size t - suc L) (suc L) x p q
 
-  pub header-bodies : (L x : ℕ) → kindOf t L ≡ 4 → L < x → x < firstOf t L → bodyOf t x ≡ L
+  pub header-bodies : (L x : ℕ) → kindAt t L ≡ 4 → L < x → x < firstOf t L → bodyOf t x ≡ L
   header-bodies L x k p q =
       let e : suc L + (x - suc L) ≡ x = omega arith in
       let st = header-stack L (x - suc L) k (λ a g h. header-rows L a g (omega arith)) in
@@ -76,28 +76,28 @@ module _ (t : List ℕ) where
 
 -- an ARG row, in its loop
 pub record ArgRow (t : List ℕ) (a : ℕ) : Type 0 where
-  pub loop-for : kindOf t (bodyOf t a) ≡ 4
+  pub loop-for : kindAt t (bodyOf t a) ≡ 4
   pub low : bodyOf t a < a
   pub high : a < firstOf t (bodyOf t a)
   pub loops : stackAt t a ≡ entryOf (bodyOf t a) (a - suc (bodyOf t a)) 0 ∷ stackAt t (bodyOf t a)
-  pub next-kind : kindOf t (nextOf t a) ≡ 6
+  pub next-kind : kindAt t (nextOf t a) ≡ 6
   pub next-body : bodyOf t (nextOf t a) ≡ bodyOf t a
   pub next-arg : argOf t (nextOf t a) ≡ a
 
 -- a NEXT row, in its loop
 pub record NextRow (t : List ℕ) (x : ℕ) : Type 0 where
-  pub loop-for : kindOf t (bodyOf t x) ≡ 4
+  pub loop-for : kindAt t (bodyOf t x) ≡ 4
   pub below : bodyOf t x < x
   pub low : firstOf t (bodyOf t x) ≤ x
   pub high : x < endOf t (bodyOf t x)
-  pub arg-kind : kindOf t (argOf t x) ≡ 5
+  pub arg-kind : kindAt t (argOf t x) ≡ 5
   pub arg-body : bodyOf t (argOf t x) ≡ bodyOf t x
   pub arg-next : nextOf t (argOf t x) ≡ x
   pub around : outward (stackAt t x) ≡ stackAt t (bodyOf t x)
 
 module _ (t : List ℕ) (ok : TableRight t) where
   -- an ARG has an open loop before it
-  header-open : (a : ℕ) → a < size t → kindOf t a ≡ 5 → (l : Loop) × (s : List Loop) × (stackAt t a ≡ l ∷ s)
+  header-open : (a : ℕ) → a < size t → kindAt t a ≡ 5 → (l : Loop) × (s : List Loop) × (stackAt t a ≡ l ∷ s)
   header-open zero less k = go (arg-behind t 0 (ok .row 0 less) k)
     where
       go : (kindBefore t 0 ≡ 4) ⊎ (kindBefore t 0 ≡ 5) → (l : Loop) × (s : List Loop) × (stackAt t 0 ≡ l ∷ s)
@@ -105,17 +105,17 @@ module _ (t : List ℕ) (ok : TableRight t) where
       go (inr e) = absurd (omega arith)
   header-open (suc b) less k = go (arg-behind t (suc b) (ok .row (suc b) less) k) (header-open b (omega arith))
     where
-      go : (kindOf t b ≡ 4) ⊎ (kindOf t b ≡ 5) → (kindOf t b ≡ 5 → (l : Loop) × (s : List Loop) × (stackAt t b ≡ l ∷ s))
+      go : (kindAt t b ≡ 4) ⊎ (kindAt t b ≡ 5) → (kindAt t b ≡ 5 → (l : Loop) × (s : List Loop) × (stackAt t b ≡ l ∷ s))
           → (l : Loop) × (s : List Loop) × (stackAt t (suc b) ≡ l ∷ s)
       go (inl e) IH = (opened b, stackAt t b, stack-opens t b e)
       go (inr e) IH = let q = IH e in (oneArg (q .0), q .1, stack-arg t b e ∙ ap (atHead oneArg) (q .2))
 
   -- once the header is behind, the ARGs counted are the ARGs
-  pub args-known : (r : ℕ) (l : Loop) (s : List Loop) → r < size t → stackAt t r ≡ l ∷ s → kindOf t r ≢ 5 → argsOf t (l .row) ≡ l .args
+  pub args-known : (r : ℕ) (l : Loop) (s : List Loop) → r < size t → stackAt t r ≡ l ∷ s → kindAt t r ≢ 5 → argsOf t (l .row) ≡ l .args
   unfolding argsOf
   args-known r l s less q n =
       let h = innermost t ok r (omega arith) l s q in
-      args-counted t (size t - suc (l .row)) (suc (l .row)) (l .args) (omega (arith, h .nexts-in)) (λ a p w. h .arg-rows a p (omega arith)) (λ k. past h (subst (λ (y : ℕ). kindOf t y ≡ 5) shift k))
+      args-counted t (size t - suc (l .row)) (suc (l .row)) (l .args) (omega (arith, h .nexts-in)) (λ a p w. h .arg-rows a p (omega arith)) (λ k. past h (subst (λ (y : ℕ). kindAt t y ≡ 5) shift k))
     where
       shift : suc (l .row) + l .args ≡ suc (l .row + l .args)
       shift = omega arith
@@ -123,18 +123,18 @@ module _ (t : List ℕ) (ok : TableRight t) where
       under : (m : ℕ) → l .row + l .args + m < r → suc (l .row + l .args) ≢ r → suc (l .row + l .args) < r
       under m p y = omega arith
 
-      past : Head t r l s → kindOf t (suc (l .row + l .args)) ≡ 5 → ⊥
-      past h k = elim (ℕ-discrete (suc (l .row + l .args)) r) [ yes y ↦ n (subst (λ (z : ℕ). kindOf t z ≡ 5) y k) | no y ↦ h .shut (under (l .nexts) (h .nexts-in) y) k ]
+      past : Head t r l s → kindAt t (suc (l .row + l .args)) ≡ 5 → ⊥
+      past h k = elim (ℕ-discrete (suc (l .row + l .args)) r) [ yes y ↦ n (subst (λ (z : ℕ). kindAt t z ≡ 5) y k) | no y ↦ h .shut (under (l .nexts) (h .nexts-in) y) k ]
 
   -- one NEXT more of an open loop, and what follows it
   record Served (x i L m k : ℕ) (s : List Loop) : Type 0 where
     in-table : x + i < size t
     loops : stackAt t (x + i) ≡ entryOf L m (k + i) ∷ s
-    more : k + i < m → kindOf t (x + i) ≡ 6
-    all : k + i ≡ m → kindOf t (x + i) ≡ 7
+    more : k + i < m → kindAt t (x + i) ≡ 6
+    all : k + i ≡ m → kindAt t (x + i) ≡ 7
 
   -- from a NEXT on NEXTs follow one another until all ARGs are served, and then comes END
-  serve-on : (x L m k : ℕ) (s : List Loop) → x < size t → kindOf t x ≡ 6 → stackAt t x ≡ entryOf L m k ∷ s → k < m → (i : ℕ) → k + i ≤ m → Served x i L m k s
+  serve-on : (x L m k : ℕ) (s : List Loop) → x < size t → kindAt t x ≡ 6 → stackAt t x ≡ entryOf L m k ∷ s → k < m → (i : ℕ) → k + i ≤ m → Served x i L m k s
   serve-on x L m k s less kx q left zero p =
       let e : x + 0 ≡ x = omega arith in
       let f : k + 0 ≡ k = omega arith in
@@ -143,7 +143,7 @@ module _ (t : List ℕ) (ok : TableRight t) where
       let IH = serve-on x L m k s less kx q left i (omega arith) in
       let e : x + suc i ≡ suc (x + i) = omega arith in
       let f : k + i + 1 ≡ k + suc i = omega arith in
-      let six : kindOf t (x + i) ≡ 6 = IH .more (omega arith) in
+      let six : kindAt t (x + i) ≡ 6 = IH .more (omega arith) in
       let st : stackAt t (suc (x + i)) ≡ entryOf L m (k + suc i) ∷ s = stack-next t (x + i) six ∙ ap (atHead oneNext) (IH .loops) ∙ ap (λ (n : ℕ). entryOf L m n ∷ s) f in
       let h = innermost t ok x (omega arith) (entryOf L m k) s q in
       let S = span t ok L (omega (arith, h .nexts-in)) (h .is-for) in
@@ -158,13 +158,13 @@ module _ (t : List ℕ) (ok : TableRight t) where
         all = λ w. rw e (by-all (suc (x + i)) nx (λ z. next-has-arg t (suc (x + i)) right z) st w);
       }
     where
-      by-more : (y : ℕ) → (kindOf t y ≡ 6) ⊎ (kindOf t y ≡ 7) → (kindOf t y ≡ 7 → allServed (stackAt t y) ≡ true) → stackAt t y ≡ entryOf L m (k + suc i) ∷ s
-          → k + suc i < m → kindOf t y ≡ 6
+      by-more : (y : ℕ) → (kindAt t y ≡ 6) ⊎ (kindAt t y ≡ 7) → (kindAt t y ≡ 7 → allServed (stackAt t y) ≡ true) → stackAt t y ≡ entryOf L m (k + suc i) ∷ s
+          → k + suc i < m → kindAt t y ≡ 6
       by-more y (inl z) g st w = z
       by-more y (inr z) g st w = let u : k + suc i ≡ m = eqb-true (k + suc i) m (rw st at (g z)) in absurd (omega arith)
 
-      by-all : (y : ℕ) → (kindOf t y ≡ 6) ⊎ (kindOf t y ≡ 7) → (kindOf t y ≡ 6 → argLeft (stackAt t y) ≡ true) → stackAt t y ≡ entryOf L m (k + suc i) ∷ s
-          → k + suc i ≡ m → kindOf t y ≡ 7
+      by-all : (y : ℕ) → (kindAt t y ≡ 6) ⊎ (kindAt t y ≡ 7) → (kindAt t y ≡ 6 → argLeft (stackAt t y) ≡ true) → stackAt t y ≡ entryOf L m (k + suc i) ∷ s
+          → k + suc i ≡ m → kindAt t y ≡ 7
       by-all y (inl z) g st w = let u : k + suc i < m = ltb-true (k + suc i) m (rw st at (g z)) in absurd (omega arith)
       by-all y (inr z) g st w = z
 
@@ -179,7 +179,7 @@ module _ (t : List ℕ) (ok : TableRight t) where
   arg-pos a L m e = omega arith
 
   -- EACH ARG HAS ITS NEXT
-  pub arg-of : (a : ℕ) → a < size t → kindOf t a ≡ 5 → ArgRow t a
+  pub arg-of : (a : ℕ) → a < size t → kindAt t a ≡ 5 → ArgRow t a
   unfolding firstOf argsOf argOf nextOf
   arg-of a less k =
       let z = header-open a less k in
@@ -188,9 +188,9 @@ module _ (t : List ℕ) (ok : TableRight t) where
       let B : bodyOf t a ≡ l .row = body-is t a l (z .1) (z .2) in
       let L = bodyOf t a in
       let at : a ≡ suc (l .row + l .args) = h .header (arg-behind t a (ok .row a less) k) in
-      let kL : kindOf t L ≡ 4 = rw B (h .is-for) in
+      let kL : kindAt t L ≡ 4 = rw B (h .is-for) in
       let low : L < a = omega arith in
-      let rows : (b : ℕ) → suc L ≤ b → b < suc L + suc (l .args) → kindOf t b ≡ 5 = λ b p q. each b l at (subst (λ (y : ℕ). suc y ≤ b) B p) (subst (λ (y : ℕ). b < suc y + suc (l .args)) B q) (h .arg-rows) in
+      let rows : (b : ℕ) → suc L ≤ b → b < suc L + suc (l .args) → kindAt t b ≡ 5 = λ b p q. each b l at (subst (λ (y : ℕ). suc y ≤ b) B p) (subst (λ (y : ℕ). b < suc y + suc (l .args)) B q) (h .arg-rows) in
       let least = args-least t (size t - suc L) (suc L) (suc (l .args)) (omega arith) rows in
       let S = span t ok L (omega arith) kL in
       let e = endOf t L in
@@ -215,17 +215,17 @@ module _ (t : List ℕ) (ok : TableRight t) where
       }
     where
       each : (b : ℕ) (l : Loop) → a ≡ suc (l .row + l .args) → suc (l .row) ≤ b → b < suc (l .row) + suc (l .args)
-          → ((y : ℕ) → l .row < y → y ≤ l .row + l .args → kindOf t y ≡ 5) → kindOf t b ≡ 5
+          → ((y : ℕ) → l .row < y → y ≤ l .row + l .args → kindAt t y ≡ 5) → kindAt t b ≡ 5
       each b l at p q all = elim (ℕ-discrete b a) [ yes y ↦ rw y k | no y ↦ all b p (under y) ]
         where
           under : b ≢ a → b ≤ l .row + l .args
           under y = omega arith
 
-      hdr : (L a j : ℕ) → kindOf t L ≡ 4 → suc L + j ≡ a → ((b : ℕ) → suc L ≤ b → b < a → kindOf t b ≡ 5) → stackAt t a ≡ entryOf L j 0 ∷ stackAt t L
+      hdr : (L a j : ℕ) → kindAt t L ≡ 4 → suc L + j ≡ a → ((b : ℕ) → suc L ≤ b → b < a → kindAt t b ≡ 5) → stackAt t a ≡ entryOf L j 0 ∷ stackAt t L
       hdr L a j kL e all = subst (λ (y : ℕ). stackAt t y ≡ entryOf L j 0 ∷ stackAt t L) e (header-stack t L j kL (λ b p q. all b p (omega arith)))
 
   -- EACH NEXT HAS ITS ARG
-  pub next-of : (x : ℕ) → x < size t → kindOf t x ≡ 6 → NextRow t x
+  pub next-of : (x : ℕ) → x < size t → kindAt t x ≡ 6 → NextRow t x
   unfolding firstOf argOf nextOf
   next-of x less kx =
       let z = left-for (stackAt t x) (next-has-arg t x (ok .row x less) kx) in
@@ -237,16 +237,16 @@ module _ (t : List ℕ) (ok : TableRight t) where
       let L = bodyOf t x in
       let k = l .nexts in
       let m = l .args in
-      let kL : kindOf t L ≡ 4 = rw B (h .is-for) in
+      let kL : kindAt t L ≡ 4 = rw B (h .is-for) in
       let S = span t ok L (omega (arith, h .nexts-in)) kL in
       let cnt : argsOf t L ≡ m = ap (argsOf t) B ∙ args-known x l s less q (λ w. omega arith) in
       let nx : nextsIn (stackAt t x) ≡ k = ap nextsIn q in
       let on = S .open-only x (rw (q, B) (member-here (l .row) l s refl)) in
       let v = serve-on x (l .row) m k s less kx q (z .3) (m - k) (omega arith) in
-      let kE : kindOf t (x + (m - k)) ≡ 7 = v .all (omega arith) in
+      let kE : kindAt t (x + (m - k)) ≡ 7 = v .all (omega arith) in
       let bE : bodyOf t (x + (m - k)) ≡ l .row = body-is t (x + (m - k)) (entryOf (l .row) m (k + (m - k))) s (v .loops) in
       let E : x + (m - k) ≡ endOf t L = end-is-endOf t ok (x + (m - k)) (v .in-table) kE ∙ ap (endOf t) (bE ∙ sym B) in
-      let kA : kindOf t (suc L + k) ≡ 5 = h .arg-rows (suc L + k) (omega arith) (omega arith) in
+      let kA : kindAt t (suc L + k) ≡ 5 = h .arg-rows (suc L + k) (omega arith) (omega arith) in
       let sA : stackAt t (suc L + k) ≡ entryOf L k 0 ∷ stackAt t L = header-stack t L k kL (λ a p w. h .arg-rows a (omega arith) (omega arith)) in
       let bA : bodyOf t (suc L + k) ≡ L = body-is t (suc L + k) (entryOf L k 0) (stackAt t L) sA in
       record {

@@ -10,7 +10,7 @@ use native.Mathlib.Omega.{arith}
 use native.Mathlib.Decide.{ℕ-discrete, decLe}
 use borrow.Author.Tests.{eqb-true, eq-eqb}
 use lib.Dec.{eqb}
-use Rattle.table.specs.Rows.{kindOf, size}
+use Rattle.table.specs.Rows.{kindAt, size}
 use Rattle.table.specs.Scan.{Loop, opened, oneArg, oneNext, atHead, outward, stackAt, bodyOf, holds}
 use Rattle.table.specs.Check.{allServed, outside, endRight, kindBefore}
 use Rattle.table.specs.Bodies.{ends, endFrom, endOf}
@@ -66,19 +66,19 @@ module _ (t : List ℕ) where
   body-is r l s e = rw e
 
   -- what is open is an earlier FOR
-  pub open-is-for : (r b : ℕ) → holds b (stackAt t r) ≡ true → (b < r) × (kindOf t b ≡ 4)
+  pub open-is-for : (r b : ℕ) → holds b (stackAt t r) ≡ true → (b < r) × (kindAt t b ≡ 4)
   unfolding stackAt
   open-is-for zero b h = absurd (false≢true h)
-  open-is-for (suc r) b h = go (open-is-for r b) (move (kindOf t r))
+  open-is-for (suc r) b h = go (open-is-for r b) (move (kindAt t r))
     where
-      later : (b < r) × (kindOf t b ≡ 4) → (b < suc r) × (kindOf t b ≡ 4)
+      later : (b < r) × (kindAt t b ≡ 4) → (b < suc r) × (kindAt t b ≡ 4)
       later q = (omega arith, q .1)
 
-      go : (holds b (stackAt t r) ≡ true → (b < r) × (kindOf t b ≡ 4)) → Move (kindOf t r) → (b < suc r) × (kindOf t b ≡ 4)
+      go : (holds b (stackAt t r) ≡ true → (b < r) × (kindAt t b ≡ 4)) → Move (kindAt t r) → (b < suc r) × (kindAt t b ≡ 4)
       go IH (opens k) = by (member-cases b (opened r) (stackAt t r) (ap (holds b) (sym (stack-opens t r k)) ∙ h))
         where
-          by : (r ≡ b) ⊎ (holds b (stackAt t r) ≡ true) → (b < suc r) × (kindOf t b ≡ 4)
-          by (inl e) = (omega arith, subst (λ (x : ℕ). kindOf t x ≡ 4) e k)
+          by : (r ≡ b) ⊎ (holds b (stackAt t r) ≡ true) → (b < suc r) × (kindAt t b ≡ 4)
+          by (inl e) = (omega arith, subst (λ (x : ℕ). kindAt t x ≡ 4) e k)
           by (inr q) = later (IH q)
       go IH (counts k) = later (IH (sym (keeps-arg b (stackAt t r)) ∙ ap (holds b) (sym (stack-arg t r k)) ∙ h))
       go IH (serves k) = later (IH (sym (keeps-next b (stackAt t r)) ∙ ap (holds b) (sym (stack-next t r k)) ∙ h))
@@ -88,9 +88,9 @@ module _ (t : List ℕ) where
   -- a loop that does not end at row r stays open there
   stays-open : (L r : ℕ) → holds L (stackAt t r) ≡ true → ends t L r ≡ false → holds L (stackAt t (suc r)) ≡ true
   unfolding ends
-  stays-open L r h n = go (move (kindOf t r))
+  stays-open L r h n = go (move (kindAt t r))
     where
-      go : Move (kindOf t r) → holds L (stackAt t (suc r)) ≡ true
+      go : Move (kindAt t r) → holds L (stackAt t (suc r)) ≡ true
       go (opens k) = rw (stack-opens t r k) (member-there L (opened r) (stackAt t r) h)
       go (counts k) = rw (stack-arg t r k) (keeps-arg L (stackAt t r) ∙ h)
       go (serves k) = rw (stack-next t r k) (keeps-next L (stackAt t r) ∙ h)
@@ -110,9 +110,9 @@ module _ (t : List ℕ) where
 
   -- a loop that is not open opens no more: only its FOR opens it
   stays-shut : (L r : ℕ) → L < r → holds L (stackAt t r) ≡ false → holds L (stackAt t (suc r)) ≡ false
-  stays-shut L r less h = not-true (holds L (stackAt t (suc r))) (λ q. go q (move (kindOf t r)))
+  stays-shut L r less h = not-true (holds L (stackAt t (suc r))) (λ q. go q (move (kindAt t r)))
     where
-      go : holds L (stackAt t (suc r)) ≡ true → Move (kindOf t r) → ⊥
+      go : holds L (stackAt t (suc r)) ≡ true → Move (kindAt t r) → ⊥
       go q (opens k) = by (member-cases L (opened r) (stackAt t r) (ap (holds L) (sym (stack-opens t r k)) ∙ q))
         where
           by : (r ≡ L) ⊎ (holds L (stackAt t r) ≡ true) → ⊥
@@ -138,7 +138,7 @@ pub record Found (t : List ℕ) (L r e : ℕ) : Type 0 where
 pub record Span (t : List ℕ) (L : ℕ) : Type 0 where
   pub below : L < endOf t L
   pub inside : endOf t L < size t
-  pub end-kind : kindOf t (endOf t L) ≡ 7
+  pub end-kind : kindAt t (endOf t L) ≡ 7
   pub end-body : bodyOf t (endOf t L) ≡ L
   pub open-in : (x : ℕ) → L < x → x ≤ endOf t L → holds L (stackAt t x) ≡ true
   pub open-only : (x : ℕ) → holds L (stackAt t x) ≡ true → (L < x) × (x ≤ endOf t L)
@@ -146,7 +146,7 @@ pub record Span (t : List ℕ) (L : ℕ) : Type 0 where
 -- body B is H, or loop B lies in loop H; n is the outermost body
 pub data Encloses (t : List ℕ) (H B : ℕ) : Type 0 where
   same : H ≡ B → Encloses t H B
-  inside : kindOf t H ≡ 4 → H < B → B ≤ endOf t H → Encloses t H B
+  inside : kindAt t H ≡ 4 → H < B → B ≤ endOf t H → Encloses t H B
   outermost : H ≡ size t → Encloses t H B
 
 module _ (t : List ℕ) (ok : TableRight t) where
@@ -182,7 +182,7 @@ module _ (t : List ℕ) (ok : TableRight t) where
           up x y p = omega arith
 
   -- an END of L shuts it: behind it the loops are those before L
-  shut-behind : (L e : ℕ) → e < size t → kindOf t e ≡ 7 → bodyOf t e ≡ L → holds L (stackAt t e) ≡ true → holds L (stackAt t (suc e)) ≡ false
+  shut-behind : (L e : ℕ) → e < size t → kindAt t e ≡ 7 → bodyOf t e ≡ L → holds L (stackAt t e) ≡ true → holds L (stackAt t (suc e)) ≡ false
   shut-behind L e less k b h =
       let z = nonempty L (stackAt t e) h in
       let q = z .2 in
@@ -191,14 +191,14 @@ module _ (t : List ℕ) (ok : TableRight t) where
       let s : stackAt t (suc e) ≡ stackAt t L = stack-closes t e k ∙ ap outward q ∙ sym (H .around) ∙ ap (stackAt t) row in
       rw s (not-true (holds L (stackAt t L)) (λ w. omega (arith, open-is-for t L L w .0)))
 
-  pub span : (L : ℕ) → L < size t → kindOf t L ≡ 4 → Span t L
+  pub span : (L : ℕ) → L < size t → kindAt t L ≡ 4 → Span t L
   unfolding endOf ends
   span L less k =
       let e = endFrom (size t - suc L) t L (suc L) in
       let start : holds L (stackAt t (suc L)) ≡ true = rw (stack-opens t L k) (member-here L (opened L) (stackAt t L) refl) in
       let f = end-found L (size t - suc L) (suc L) (omega arith) start in
-      let two = both (eqb (kindOf t e) 7) (eqb (bodyOf t e) L) (f .is-end) in
-      let ke : kindOf t e ≡ 7 = eqb-true (kindOf t e) 7 (two .0) in
+      let two = both (eqb (kindAt t e) 7) (eqb (bodyOf t e) L) (f .is-end) in
+      let ke : kindAt t e ≡ 7 = eqb-true (kindAt t e) 7 (two .0) in
       let be : bodyOf t e ≡ L = eqb-true (bodyOf t e) L (two .1) in
       let off = shut-behind L e (f .high) ke be (f .open-to e (f .low) (omega arith)) in
       record {
@@ -223,14 +223,14 @@ module _ (t : List ℕ) (ok : TableRight t) where
   open-below r b less h = omega (arith, open-is-for t r b h .0)
 
   -- an END ends the loop in which it stands
-  pub end-stands : (r : ℕ) → r < size t → kindOf t r ≡ 7 → holds (bodyOf t r) (stackAt t r) ≡ true
+  pub end-stands : (r : ℕ) → r < size t → kindAt t r ≡ 7 → holds (bodyOf t r) (stackAt t r) ≡ true
   end-stands r less k = go (stackAt t r) refl (end-is-served t r (ok .row r less) k)
     where
       go : (z : List Loop) → stackAt t r ≡ z → allServed z ≡ true → holds (bodyOf t r) (stackAt t r) ≡ true
       go [] q h = absurd (false≢true h)
       go (l ∷ s) q h = rw (q, body-is t r l s q) (member-here (l .row) l s refl)
 
-  pub end-is-endOf : (r : ℕ) → r < size t → kindOf t r ≡ 7 → r ≡ endOf t (bodyOf t r)
+  pub end-is-endOf : (r : ℕ) → r < size t → kindAt t r ≡ 7 → r ≡ endOf t (bodyOf t r)
   end-is-endOf r less k =
       let L = bodyOf t r in
       let h = end-stands r less k in
@@ -260,7 +260,7 @@ module _ (t : List ℕ) (ok : TableRight t) where
           inside (open-is-for t r H h .1) (b .0) (b .1)
 
   -- LOOPS NEST
-  pub loops-nest : (L M : ℕ) → M < size t → kindOf t L ≡ 4 → kindOf t M ≡ 4 → L < M → M ≤ endOf t L → endOf t M < endOf t L
+  pub loops-nest : (L M : ℕ) → M < size t → kindAt t L ≡ 4 → kindAt t M ≡ 4 → L < M → M ≤ endOf t L → endOf t M < endOf t L
   loops-nest L M less kL kM p q =
       let S = span L (omega arith) kL in
       let R = span M less kM in

@@ -10,7 +10,7 @@ use mathlib.Core.Path.{_≡_, refl, sym, ap, _∙_, subst}
 use native.Mathlib.Omega.{arith}
 use native.Mathlib.Decide.{decLe}
 use lib.ListN.{length}
-use Rattle.table.specs.Rows.{kindOf, word, size, operandCount}
+use Rattle.table.specs.Rows.{kindAt, word, size, operandCount}
 use Rattle.table.specs.Scan.{Loop, stackAt, bodyOf, reads, readStack, home, holds, outward}
 use Rattle.table.specs.Check.{tableRefusal, answer}
 use Rattle.table.specs.Bodies.{endOf, argsOf, firstOf}
@@ -23,7 +23,7 @@ use Rattle.structure.specs.Order.{words-of-rows, some-rows, at-most-512-
 
 -- a row in a loop: behind the FOR, not behind the END
 pub record InLoop (t : List ℕ) (L r : ℕ) : Type 0 where
-  pub is-for : kindOf t L ≡ 4
+  pub is-for : kindAt t L ≡ 4
   pub low : L < r
   pub high : r ≤ endOf t L
 
@@ -32,45 +32,45 @@ pub record Structure (t : List ℕ) : Type 0 where
   pub words : length t ≡ 6 * size t
   pub any : 1 ≤ size t
   pub few : size t ≤ 512
-  pub kinds : (r : ℕ) → r < size t → kindOf t r ≤ 8
-  pub op-codes : (r : ℕ) → r < size t → kindOf t r ≡ 2 → word t r 1 ≤ 7
-  pub loop-codes : (L : ℕ) → L < size t → kindOf t L ≡ 4 → (word t L 4 ≤ 5) × (word t L 5 ≤ 4)
+  pub kinds : (r : ℕ) → r < size t → kindAt t r ≤ 8
+  pub op-codes : (r : ℕ) → r < size t → kindAt t r ≡ 2 → word t r 1 ≤ 7
+  pub loop-codes : (L : ℕ) → L < size t → kindAt t L ≡ 4 → (word t L 4 ≤ 5) × (word t L 5 ≤ 4)
   -- INPUT and CONST first, OUT last, both outside every loop
-  pub starts : (r s : ℕ) → r < s → s < size t → kindOf t s ≤ 1 → kindOf t r ≤ 1
-  pub outs : (r s : ℕ) → r < s → s < size t → kindOf t r ≡ 8 → kindOf t s ≡ 8
-  pub last-out : (r : ℕ) → suc r ≡ size t → kindOf t r ≡ 8
-  pub start-body : (r : ℕ) → r < size t → kindOf t r ≤ 1 → bodyOf t r ≡ size t
-  pub out-body : (r : ℕ) → r < size t → kindOf t r ≡ 8 → bodyOf t r ≡ size t
+  pub starts : (r s : ℕ) → r < s → s < size t → kindAt t s ≤ 1 → kindAt t r ≤ 1
+  pub outs : (r s : ℕ) → r < s → s < size t → kindAt t r ≡ 8 → kindAt t s ≡ 8
+  pub last-out : (r : ℕ) → suc r ≡ size t → kindAt t r ≡ 8
+  pub start-body : (r : ℕ) → r < size t → kindAt t r ≤ 1 → bodyOf t r ≡ size t
+  pub out-body : (r : ℕ) → r < size t → kindAt t r ≡ 8 → bodyOf t r ≡ size t
   -- at most eight loops are open, and none at the end
   pub deep : (r : ℕ) → r ≤ size t → length (stackAt t r) ≤ 8
   pub all-shut : stackAt t (size t) ≡ []
   -- each loop has its END, and is open from the row behind its FOR up to it
-  pub loop-span : (L : ℕ) → L < size t → kindOf t L ≡ 4 → Span t L
-  pub loop-first : (L : ℕ) → L < size t → kindOf t L ≡ 4 → (L < firstOf t L) × (firstOf t L ≤ endOf t L)
+  pub loop-span : (L : ℕ) → L < size t → kindAt t L ≡ 4 → Span t L
+  pub loop-first : (L : ℕ) → L < size t → kindAt t L ≡ 4 → (L < firstOf t L) × (firstOf t L ≤ endOf t L)
   -- a row of another kind than ARG stands behind the ARGs of every loop that starts above it
-  pub past-args : (L r : ℕ) → kindOf t r ≢ 5 → L < r → firstOf t L ≤ r
-  pub loop-args : (L a : ℕ) → L < size t → kindOf t L ≡ 4 → L < a → a < firstOf t L → (kindOf t a ≡ 5) × (bodyOf t a ≡ L)
-  pub end-of : (r : ℕ) → r < size t → kindOf t r ≡ 7 → (kindOf t (bodyOf t r) ≡ 4) × (bodyOf t r < r) × (endOf t (bodyOf t r) ≡ r)
+  pub past-args : (L r : ℕ) → kindAt t r ≢ 5 → L < r → firstOf t L ≤ r
+  pub loop-args : (L a : ℕ) → L < size t → kindAt t L ≡ 4 → L < a → a < firstOf t L → (kindAt t a ≡ 5) × (bodyOf t a ≡ L)
+  pub end-of : (r : ℕ) → r < size t → kindAt t r ≡ 7 → (kindAt t (bodyOf t r) ≡ 4) × (bodyOf t r < r) × (endOf t (bodyOf t r) ≡ r)
   -- loops nest
-  pub nest : (L M : ℕ) → M < size t → kindOf t L ≡ 4 → kindOf t M ≡ 4 → L < M → M ≤ endOf t L → (firstOf t L ≤ M) × (endOf t M < endOf t L)
+  pub nest : (L M : ℕ) → M < size t → kindAt t L ≡ 4 → kindAt t M ≡ 4 → L < M → M ≤ endOf t L → (firstOf t L ≤ M) × (endOf t M < endOf t L)
   -- the body of a row is the innermost loop around it
   pub body-loop : (r : ℕ) → r ≤ size t → bodyOf t r ≢ size t → InLoop t (bodyOf t r) r
   pub body-inmost : (r L : ℕ) → r ≤ size t → L < size t → InLoop t L r → Encloses t L (bodyOf t r)
-  pub body-first : (r : ℕ) → r < size t → kindOf t r ≢ 5 → bodyOf t r ≢ size t → firstOf t (bodyOf t r) ≤ r
+  pub body-first : (r : ℕ) → r < size t → kindAt t r ≢ 5 → bodyOf t r ≢ size t → firstOf t (bodyOf t r) ≤ r
   -- ARGs and NEXTs pair off
-  pub arg-row : (a : ℕ) → a < size t → kindOf t a ≡ 5 → ArgRow t a
-  pub next-row : (x : ℕ) → x < size t → kindOf t x ≡ 6 → NextRow t x
+  pub arg-row : (a : ℕ) → a < size t → kindAt t a ≡ 5 → ArgRow t a
+  pub next-row : (x : ℕ) → x < size t → kindAt t x ≡ 6 → NextRow t x
   -- homes, and where operands are read
-  pub start-home : (v : ℕ) → kindOf t v ≤ 1 → home t v ≡ size t
-  pub op-home : (v : ℕ) → (kindOf t v ≡ 2) ⊎ (kindOf t v ≡ 3) → home t v ≡ bodyOf t v
-  pub for-home : (L : ℕ) → kindOf t L ≡ 4 → home t L ≡ L
-  pub arg-home : (a : ℕ) → kindOf t a ≡ 5 → home t a ≡ bodyOf t a
-  pub next-home : (x : ℕ) → x < size t → kindOf t x ≡ 6 → home t x ≡ bodyOf t (bodyOf t x)
-  pub reads-body : (r : ℕ) → kindOf t r ≢ 5 → reads t r ≡ bodyOf t r
-  pub arg-reads : (a : ℕ) → a < size t → kindOf t a ≡ 5 → reads t a ≡ bodyOf t (bodyOf t a)
+  pub start-home : (v : ℕ) → kindAt t v ≤ 1 → home t v ≡ size t
+  pub op-home : (v : ℕ) → (kindAt t v ≡ 2) ⊎ (kindAt t v ≡ 3) → home t v ≡ bodyOf t v
+  pub for-home : (L : ℕ) → kindAt t L ≡ 4 → home t L ≡ L
+  pub arg-home : (a : ℕ) → kindAt t a ≡ 5 → home t a ≡ bodyOf t a
+  pub next-home : (x : ℕ) → x < size t → kindAt t x ≡ 6 → home t x ≡ bodyOf t (bodyOf t x)
+  pub reads-body : (r : ℕ) → kindAt t r ≢ 5 → reads t r ≡ bodyOf t r
+  pub arg-reads : (a : ℕ) → a < size t → kindAt t a ≡ 5 → reads t a ≡ bodyOf t (bodyOf t a)
   -- each operand: an earlier value, at home where it is read or around, of the sort that is wanted
-  pub operands : (r j : ℕ) → r < size t → j < operandCount (kindOf t r) → Operand t r j
-  pub arg-operand : (a : ℕ) → a < size t → kindOf t a ≡ 5 → ArgOperand t a
+  pub operands : (r j : ℕ) → r < size t → j < operandCount (kindAt t r) → Operand t r j
+  pub arg-operand : (a : ℕ) → a < size t → kindAt t a ≡ 5 → ArgOperand t a
 
 module _ (t : List ℕ) where
   outer-body : (r : ℕ) → stackAt t r ≡ [] → bodyOf t r ≡ size t
@@ -86,7 +86,7 @@ module _ (t : List ℕ) where
   first-above L = omega arith
 
 module _ (t : List ℕ) (ok : TableRight t) where
-  first-below : (L : ℕ) → L < size t → kindOf t L ≡ 4 → firstOf t L ≤ endOf t L
+  first-below : (L : ℕ) → L < size t → kindAt t L ≡ 4 → firstOf t L ≤ endOf t L
   unfolding firstOf
   first-below L less k =
       let S = span t ok L less k in
@@ -115,18 +115,18 @@ module _ (t : List ℕ) (ok : TableRight t) where
       subst (Encloses t L) (sym (body-is t r (z .0) (z .1) (z .2))) (open-encloses t ok r L (z .0) (z .1) less (z .2) o)
 
   -- a row of another kind is not in the header
-  past-header : (L r : ℕ) → kindOf t r ≢ 5 → L < r → firstOf t L ≤ r
+  past-header : (L r : ℕ) → kindAt t r ≢ 5 → L < r → firstOf t L ≤ r
   past-header L r n low = elim (decLe (firstOf t L) r) [ yes p ↦ p | no p ↦ absurd (n (header-rows t L r low (over (firstOf t L) r p))) ]
     where
       over : (a b : ℕ) → (a ≤ b → ⊥) → b < a
       over a b p = omega arith
 
-  end-row : (r : ℕ) → r < size t → kindOf t r ≡ 7 → (kindOf t (bodyOf t r) ≡ 4) × (bodyOf t r < r) × (endOf t (bodyOf t r) ≡ r)
+  end-row : (r : ℕ) → r < size t → kindAt t r ≡ 7 → (kindAt t (bodyOf t r) ≡ 4) × (bodyOf t r < r) × (endOf t (bodyOf t r) ≡ r)
   end-row r less k =
       let o = open-is-for t r (bodyOf t r) (end-stands t ok r less k) in
       (o .1, o .0, sym (end-is-endOf t ok r less k))
 
-  two-three : (v : ℕ) → (kindOf t v ≡ 2) ⊎ (kindOf t v ≡ 3) → home t v ≡ bodyOf t v
+  two-three : (v : ℕ) → (kindAt t v ≡ 2) ⊎ (kindAt t v ≡ 3) → home t v ≡ bodyOf t v
   two-three v (inl k) = home-here t v (omega arith) (λ e. omega arith) (λ e. omega arith)
   two-three v (inr k) = home-here t v (omega arith) (λ e. omega arith) (λ e. omega arith)
 

@@ -9,7 +9,7 @@ use borrow.Author.Tests.{ne-eqb}
 use lib.Dec.{eqb}
 use lib.ListN.{getD, set, length}
 use lib.Seq.{getD-set-same, getD-set-other}
-use Rattle.table.specs.Rows.{kindOf}
+use Rattle.table.specs.Rows.{kindAt}
 use Rattle.table.specs.Scan.{Loop, opened, oneArg, oneNext, atHead, outward, after, stackAt}
 use Rattle.table.specs.Check.{outside}
 use Rattle.table.specs.Kept.{entryOf, loopOf, openLoops, depthAfter, Counted}
@@ -113,7 +113,7 @@ counted-after kind r s c = go (eqb kind 4) (eqb kind 5) (eqb kind 6) (eqb kind 7
 counted-by : (t : List ℕ) (r : ℕ) → Counted r (stackAt t r)
 unfolding stackAt
 counted-by t zero = tt
-counted-by t (suc r) = counted-after (kindOf t r) r (stackAt t r) (counted-by t r)
+counted-by t (suc r) = counted-after (kindAt t r) r (stackAt t r) (counted-by t r)
 
 pub counted-at : (t : List ℕ) (r n : ℕ) → r ≤ n → Counted n (stackAt t r)
 counted-at t r n h = counted-more r n (stackAt t r) h (counted-by t r)

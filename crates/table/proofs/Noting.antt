@@ -10,7 +10,7 @@ use native.Mathlib.Numerals.{add-one}
 use borrow.Author.Tests.{ne-eqb, ltb-true}
 use lib.ListN.{getD, set, length, replicate, length-replicate, length-set}
 use lib.Seq.{getD-set-same, getD-set-other}
-use Rattle.table.specs.Rows.{kindOf, size}
+use Rattle.table.specs.Rows.{kindAt, size}
 use Rattle.table.specs.Scan.{after, stackAt, inner, bodyOf, homeBy, home}
 use Rattle.table.specs.Check.{kindRight, spareRight, codeRight, placeRight, depthRight, namesRight, typesRight, endRight, orElse, rowRefusal, answer, rowsFrom}
 use Rattle.table.specs.Right.{passing-row-is-right}
@@ -39,7 +39,7 @@ noted l i x f h e all k less =
     below k q less = omega arith
 
 pub noted-more : (t : List ℕ) (i : ℕ) {kind n h b d e : ℕ} {hs bs : List ℕ} {a : List (List ℕ)} (a₁ : List (List ℕ)) → Noted t i hs bs a d → i < n
-    → n ≡ size t → kind ≡ kindOf t i
+    → n ≡ size t → kind ≡ kindAt t i
     → h ≡ homeBy n kind i (openLoops a d) → b ≡ inner n (openLoops a d) → openLoops a₁ (depthAfter kind d) ≡ after kind i (openLoops a d)
     → (e ≡ depthAfter kind d) × (e ≤ 8) → Noted t (i + 1) (set hs i h) (set bs i b) a₁ e
 unfolding home bodyOf stackAt
@@ -56,7 +56,7 @@ noted-more t i {kind} {n} {h} {b} {d} {e} {hs} {bs} {a} a₁ N l en ek eh eb ea 
     }
 
 -- a FOR that passed has room
-pub room : (t : List ℕ) (i : ℕ) {kind x : ℕ} → kind ≡ kindOf t i → x ≡ rowRefusal t i → x ≡ 0 → kind ≡ 4 → length (stackAt t i) < 8
+pub room : (t : List ℕ) (i : ℕ) {kind x : ℕ} → kind ≡ kindAt t i → x ≡ rowRefusal t i → x ≡ 0 → kind ≡ 4 → length (stackAt t i) < 8
 unfolding depthRight
 room t i ek ex z k = ltb-true _ 8 (rw (← ek, k) at (passing-row-is-right t i (sym ex ∙ z) .depth))
 

@@ -9,16 +9,16 @@ use native.Mathlib.Decide.{decLt}
 use borrow.Author.Tests.{ne-eqb, lt-ltb, le-ltb, le-leb, lt-leb}
 use lib.Dec.{eqb, ltb}
 use lib.ListN.{getD}
-use Rattle.table.specs.Rows.{kindOf, size}
+use Rattle.table.specs.Rows.{kindAt, size}
 use Rattle.table.specs.Scan.{stackAt, bodyOf, outward, readStack, home, holds, bodyOpen, endPassed}
 use Rattle.table.specs.Clauses.{sight, hiddenBody}
 use Rattle.table.specs.Kept.{openLoops}
 use Rattle.table.proofs.Loops.{open-outward}
 
 -- the loops open where the operands of row r are read
-pub read-loops : (t : List ℕ) (r : ℕ) (a : List (List ℕ)) (d : ℕ) → openLoops a d ≡ stackAt t r → openLoops a (cond (eqb (kindOf t r) 5) (d - 1) d) ≡ readStack t r
+pub read-loops : (t : List ℕ) (r : ℕ) (a : List (List ℕ)) (d : ℕ) → openLoops a d ≡ stackAt t r → openLoops a (cond (eqb (kindAt t r) 5) (d - 1) d) ≡ readStack t r
 unfolding readStack
-read-loops t r a d h = go (eqb (kindOf t r) 5)
+read-loops t r a d h = go (eqb (kindAt t r) 5)
   where
     go : (b : Bool) → openLoops a (cond b (d - 1) d) ≡ cond b (outward (stackAt t r)) (stackAt t r)
     go true = sym (open-outward a d) ∙ ap outward h
@@ -29,11 +29,11 @@ module _ (t : List ℕ) (r v : ℕ) where
   unfolding sight
   not-earlier h = rw (le-ltb v r h)
 
-  pub no-value : {kind : ℕ} → v < r → kind ≡ kindOf t v → 6 < kind → sight t r v ≡ 2
+  pub no-value : {kind : ℕ} → v < r → kind ≡ kindAt t v → 6 < kind → sight t r v ≡ 2
   unfolding sight
   no-value h e k = rw (lt-ltb v r h, ← e, lt-leb _ 6 k)
 
-  pub by-home : {kind n b : ℕ} {o : Bool} (a : List (List ℕ)) (e : ℕ) → v < r → kind ≡ kindOf t v → kind ≤ 6 → n ≡ size t → b ≡ home t v → openLoops a e ≡ readStack t r
+  pub by-home : {kind n b : ℕ} {o : Bool} (a : List (List ℕ)) (e : ℕ) → v < r → kind ≡ kindAt t v → kind ≤ 6 → n ≡ size t → b ≡ home t v → openLoops a e ≡ readStack t r
       → o ≡ bodyOpen n b (openLoops a e) → sight t r v ≡ cond o (cond (endPassed t r v) 0 5) (cond (bodyOpen (size t) (home t v) (stackAt t r)) 4 3)
   unfolding sight
   by-home a d h e k en eb ee eo = rw (lt-ltb v r h, ← e, le-leb _ 6 k, ← ee, ← en, ← eb, ← eo)
@@ -52,11 +52,11 @@ module _ (t : List ℕ) (r v : ℕ) where
       → o ≡ bodyOpen n b (openLoops a d) → bodyOpen (size t) (home t v) (stackAt t r) ≡ o
   where-it-stands a d en eb ed eo = rw (← en, ← eb, ← ed) (sym eo)
 
-  pub passed : {kind b : ℕ} {o : Bool} (a : List (List ℕ)) (d : ℕ) → kind ≡ kindOf t v → kind ≡ 6 → b ≡ bodyOf t v → openLoops a d ≡ stackAt t r
+  pub passed : {kind b : ℕ} {o : Bool} (a : List (List ℕ)) (d : ℕ) → kind ≡ kindAt t v → kind ≡ 6 → b ≡ bodyOf t v → openLoops a d ≡ stackAt t r
       → o ≡ holds b (openLoops a d) → endPassed t r v ≡ not o
   unfolding endPassed
   passed a d e k eb ed eo = rw (← e, k, ← eb, ← ed, ← eo)
 
-  pub no-next : {kind : ℕ} → kind ≡ kindOf t v → (kind ≡ 6 → ⊥) → endPassed t r v ≡ true
+  pub no-next : {kind : ℕ} → kind ≡ kindAt t v → (kind ≡ 6 → ⊥) → endPassed t r v ≡ true
   unfolding endPassed
   no-next e k = rw (← e, ne-eqb _ 6 k)

@@ -7,7 +7,7 @@ use mathlib.Core.List.{List}
 use native.Mathlib.Omega.{arith}
 use lib.Dec.{ltb}
 use lib.ListN.{getD}
-use Rattle.table.specs.Rows.{Field, spare, fields, summed, fieldIn, fieldsOf, fieldAt, inUse, named, coded, allows, sortNamed, kindOf, word, firstOperand}
+use Rattle.table.specs.Rows.{Field, spare, fields, summed, fieldIn, fieldsOf, fieldAt, inUse, named, coded, allows, sortNamed, kindAt, word, firstOperand}
 use Rattle.table.specs.Bodies.{operand}
 use Rattle.table.specs.Check.{isCode}
 use Rattle.table.specs.Clauses.{firstFrom}
@@ -89,12 +89,12 @@ no-word kind (suc (suc (suc (suc (suc zero))))) n1 n2 n3 n4 n5 = absurd (n5 refl
 no-word kind (suc (suc (suc (suc (suc (suc k)))))) n1 n2 n3 n4 n5 = refl
 
 -- word k is told where it is no code, else what is told of the later ones
-pub code-told : (t : List ℕ) (r k u later : ℕ) {kind w x : ℕ} {b : Bool} → kind ≡ kindOf t r → fieldOf u ≡ fieldIn (fieldsOf kind) k → w ≡ word t r k
+pub code-told : (t : List ℕ) (r k u later : ℕ) {kind w x : ℕ} {b : Bool} → kind ≡ kindAt t r → fieldOf u ≡ fieldIn (fieldsOf kind) k → w ≡ word t r k
     → b ≡ allows (fieldOf u) w → x ≡ cond b later k → x ≡ cond (isCode t r k) later k
 unfolding fieldAt
 code-told t r k u later {kind} {w} ek eu ew eb ex =
     ex ∙ ap (λ (y : Bool). cond y later k)
-    (eb ∙ ap (λ (y : Field). allows y w) (eu ∙ ap (λ (y : ℕ). fieldIn (fieldsOf y) k) ek) ∙ ap (allows (fieldAt (kindOf t r) k)) ew)
+    (eb ∙ ap (λ (y : Field). allows y w) (eu ∙ ap (λ (y : ℕ). fieldIn (fieldsOf y) k) ek) ∙ ap (allows (fieldAt (kindAt t r) k)) ew)
 
 pub first-of-five : (p : ℕ → Bool) {a b c d e : ℕ} → e ≡ cond (p 5) 0 5 → d ≡ cond (p 4) e 4 → c ≡ cond (p 3) d 3 → b ≡ cond (p 2) c 2 → a ≡ cond (p 1) b 1
     → a ≡ firstFrom p 5 1
@@ -104,5 +104,5 @@ first-of-five p e5 e4 e3 e2 e1 =
     (e2 ∙ ap (λ (x : ℕ). cond (p 2) x 2) (e3 ∙ ap (λ (x : ℕ). cond (p 3) x 3) (e4 ∙ ap (λ (x : ℕ). cond (p 4) x 4) e5)))
 
 -- operand j of a row, from its first operand's word
-pub operand-word : (t : List ℕ) (r j f k : ℕ) → k ≡ kindOf t r → f ≡ firstOperand k → getD t (6 * r + (f + j)) 0 ≡ operand t r j
+pub operand-word : (t : List ℕ) (r j f k : ℕ) → k ≡ kindAt t r → f ≡ firstOperand k → getD t (6 * r + (f + j)) 0 ≡ operand t r j
 operand-word t r j f k e d = ap (λ (x : ℕ). getD t (6 * r + (x + j)) 0) (d ∙ ap firstOperand e)

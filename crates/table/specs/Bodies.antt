@@ -6,7 +6,7 @@ use Prim.Native.Nat.{ℕ, zero, suc, _+_, _-_}
 use mathlib.Core.Bool.{Bool, cond, _&&_}
 use mathlib.Core.List.{List, [], _∷_}
 use lib.Dec.{eqb}
-use Rattle.table.specs.Rows.{kindOf, word, size, INPUT, CONST, OP, PICK, FOR, ARG, NEXT, END, OUT, firstOperand}
+use Rattle.table.specs.Rows.{kindAt, word, size, INPUT, CONST, OP, PICK, FOR, ARG, NEXT, END, OUT, firstOperand}
 use Rattle.table.specs.Scan.{Loop, stackAt, bodyOf}
 
 -- The table of kinds, with the words used. A kind over 8 is `unknown`.
@@ -32,15 +32,15 @@ rowBy kind a b c d e =
     (cond (eqb kind ARG) (arg a) (cond (eqb kind NEXT) (next a) (cond (eqb kind END) end (cond (eqb kind OUT) (out a) unknown))))))))
 
 unfoldable pub rowAt : List ℕ → ℕ → Row
-rowAt t r = rowBy (kindOf t r) (word t r 1) (word t r 2) (word t r 3) (word t r 4) (word t r 5)
+rowAt t r = rowBy (kindAt t r) (word t r 1) (word t r 2) (word t r 3) (word t r 4) (word t r 5)
 
 -- the j-th operand of row r, from 0
 abbrev pub operand : List ℕ → ℕ → ℕ → ℕ
-operand t r j = word t r (firstOperand (kindOf t r) + j)
+operand t r j = word t r (firstOperand (kindAt t r) + j)
 
 -- row r is the END of loop L
 unfoldable pub ends : List ℕ → ℕ → ℕ → Bool
-ends t L r = eqb (kindOf t r) END && eqb (bodyOf t r) L
+ends t L r = eqb (kindAt t r) END && eqb (bodyOf t r) L
 
 -- the first END of L among so many rows from r up; the row behind them where there is none
 unfoldable pub endFrom : ℕ → List ℕ → ℕ → ℕ → ℕ
@@ -54,7 +54,7 @@ endOf t L = endFrom (size t - suc L) t L (suc L)
 -- how many of so many rows from r up are ARGs before another kind comes
 unfoldable pub argsFrom : ℕ → List ℕ → ℕ → ℕ
 argsFrom zero t r = 0
-argsFrom (suc m) t r = let later = suc (argsFrom m t (suc r)) in cond (eqb (kindOf t r) ARG) later 0
+argsFrom (suc m) t r = let later = suc (argsFrom m t (suc r)) in cond (eqb (kindAt t r) ARG) later 0
 
 -- 'The ARGs of a loop stand directly behind its FOR.'
 unfoldable pub argsOf : List ℕ → ℕ → ℕ
@@ -66,10 +66,10 @@ firstOf t L = suc L + argsOf t L
 
 -- row r is an ARG, a NEXT of loop L
 unfoldable pub isArg : List ℕ → ℕ → ℕ → Bool
-isArg t L r = eqb (kindOf t r) ARG && eqb (bodyOf t r) L
+isArg t L r = eqb (kindAt t r) ARG && eqb (bodyOf t r) L
 
 unfoldable pub isNext : List ℕ → ℕ → ℕ → Bool
-isNext t L r = eqb (kindOf t r) NEXT && eqb (bodyOf t r) L
+isNext t L r = eqb (kindAt t r) NEXT && eqb (bodyOf t r) L
 
 -- how many NEXTs the innermost loop has had
 abbrev pub nextsIn : List Loop → ℕ

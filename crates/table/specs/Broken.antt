@@ -15,7 +15,7 @@ use native.Mathlib.Decide.{ℕ-discrete, decLt}
 use borrow.Author.Tests.{eq-eqb, ne-eqb, lt-ltb, le-ltb, le-leb, lt-leb, eqb-false, leb-false, ltb-false}
 use lib.Dec.{eqb, leb, ltb}
 use lib.ListN.{length}
-use Rattle.table.specs.Rows.{Field, spare, value, code, names, allows, fieldAt, kindOf, word, size, CONST, FOR, ARG, NEXT, END, OUT, usedWords, operandCount, firstOperand, sortOf, wantedSort, first-is-a-or-b}
+use Rattle.table.specs.Rows.{Field, spare, value, code, names, allows, fieldAt, kindAt, word, size, CONST, FOR, ARG, NEXT, END, OUT, usedWords, operandCount, firstOperand, sortOf, wantedSort, first-is-a-or-b}
 use Rattle.table.specs.Scan.{Loop, stackAt, bodyOf, readStack, home, bodyOpen, endPassed, visible}
 use Rattle.table.specs.Bodies.{nextsIn}
 use Rattle.table.specs.Check.{LENGTH, KIND, SPARE, CODE, PLACE, DEPTH, NAME, TYPE, OPEN, zerosFrom, spareRight, isCode, codesFrom, codeRight, kindBefore, follows, argLeft, allServed, outside, stands, placeRight, lengthRight, kindRight, depthRight, endRight, orElse, rowRefusal, Refusal, answer, rowsFrom, tableRefusal, namesFrom, namesRight, typesFrom, typesRight}
@@ -34,7 +34,7 @@ zeros-first t r (suc m) k h = one-more (eqb (word t r k) 0) _ _ k h (zeros-first
 -- 3 IS BROKEN EXACTLY WHERE A WORD IS TOLD
 pub spare-told : (t : List ℕ) (r : ℕ) → spareRight t r ≡ eqb (spareWord t r) 0
 unfolding spareRight spareWord
-spare-told t r = zeros-first t r (5 - usedWords (kindOf t r)) (usedWords (kindOf t r) + 1) (omega arith)
+spare-told t r = zeros-first t r (5 - usedWords (kindAt t r)) (usedWords (kindAt t r) + 1) (omega arith)
 
 codes-first : (t : List ℕ) (r m k : ℕ) → 1 ≤ k → codesFrom m t r k ≡ eqb (firstFrom (isCode t r) m k) 0
 unfolding codesFrom firstFrom
@@ -87,8 +87,8 @@ stands-told k s = go (eqb k NEXT) (eqb k END) (eqb k OUT) s
 pub place-told : (t : List ℕ) (r : ℕ) → placeRight t r ≡ eqb (placeFault t r) 0
 unfolding placeRight placeFault
 place-told t r =
-    rw (follows-told (kindBefore t r) (kindOf t r), stands-told (kindOf t r) (stackAt t r))
-    (go (followsFault (kindBefore t r) (kindOf t r)) (standsFault (kindOf t r) (stackAt t r)))
+    rw (follows-told (kindBefore t r) (kindAt t r), stands-told (kindAt t r) (stackAt t r))
+    (go (followsFault (kindBefore t r) (kindAt t r)) (standsFault (kindAt t r) (stackAt t r)))
   where
     go : (f s : ℕ) → (eqb f 0 && eqb s 0) ≡ eqb (cond (eqb f 0) s f) 0
     go zero s = refl
@@ -98,7 +98,7 @@ place-told t r =
 pub seen-told : (t : List ℕ) (r v : ℕ) → visible t r v ≡ eqb (sight t r v) 0
 unfolding visible sight
 seen-told t r v =
-    go (ltb v r) (leb (kindOf t v) NEXT) (bodyOpen (size t) (home t v) (readStack t r)) (endPassed t r v) (bodyOpen (size t) (home t v) (stackAt t r))
+    go (ltb v r) (leb (kindAt t v) NEXT) (bodyOpen (size t) (home t v) (readStack t r)) (endPassed t r v) (bodyOpen (size t) (home t v) (stackAt t r))
   where
     go : (a b c d e : Bool) → (a && (b && (c && d))) ≡ eqb (cond a (cond b (cond c (cond d 0 5) (cond e 4 3)) 2) 1) 0
     go true true true true e = refl
@@ -121,11 +121,11 @@ types-first t r (suc m) k h = one-more (isSorted t r k) _ _ k h (types-first t r
 -- 7 AND 8 LIKEWISE
 pub names-told : (t : List ℕ) (r : ℕ) → namesRight t r ≡ eqb (hiddenWord t r) 0
 unfolding namesRight hiddenWord
-names-told t r = names-first t r (operandCount (kindOf t r)) (firstOperand (kindOf t r)) (first-is-a-or-b (kindOf t r) .0)
+names-told t r = names-first t r (operandCount (kindAt t r)) (firstOperand (kindAt t r)) (first-is-a-or-b (kindAt t r) .0)
 
 pub types-told : (t : List ℕ) (r : ℕ) → typesRight t r ≡ eqb (mistypedWord t r) 0
 unfolding typesRight mistypedWord
-types-told t r = types-first t r (operandCount (kindOf t r)) (firstOperand (kindOf t r)) (first-is-a-or-b (kindOf t r) .0)
+types-told t r = types-first t r (operandCount (kindAt t r)) (firstOperand (kindAt t r)) (first-is-a-or-b (kindAt t r) .0)
 
 -- ---- what each fault says
 
@@ -147,28 +147,28 @@ pub data Among (kind : ℕ) (s : List Loop) (fault : ℕ) : Type 0 where
 -- value v named in row r, and the loop that hides it
 pub data Hidden (t : List ℕ) (r v fault body : ℕ) : Type 0 where
   later : fault ≡ 1 → r ≤ v → Hidden t r v fault body
-  valueless : fault ≡ 2 → v < r → NEXT < kindOf t v → Hidden t r v fault body
+  valueless : fault ≡ 2 → v < r → NEXT < kindAt t v → Hidden t r v fault body
   closed : fault ≡ 3 → v < r → body ≡ home t v → bodyOpen (size t) body (stackAt t r) ≡ false → Hidden t r v fault body
   entered : fault ≡ 4 → v < r → body ≡ home t v → bodyOpen (size t) body (readStack t r) ≡ false → bodyOpen (size t) body (stackAt t r) ≡ true → Hidden t r v fault body
   unended : fault ≡ 5 → v < r → body ≡ bodyOf t v → endPassed t r v ≡ false → Hidden t r v fault body
 
 -- word k of row r names a value
 abbrev pub Operand : List ℕ → ℕ → ℕ → Type 0
-Operand t r k = (firstOperand (kindOf t r) ≤ k) × (k < firstOperand (kindOf t r) + operandCount (kindOf t r))
+Operand t r k = (firstOperand (kindAt t r) ≤ k) × (k < firstOperand (kindAt t r) + operandCount (kindAt t r))
 
 -- THE CLAUSES
 pub data Broken (t : List ℕ) (number r fault k body : ℕ) : Type 0 where
   split-row : number ≡ LENGTH → fault ≡ 1 → (length t % 6 ≡ 0 → ⊥) → Broken t number r fault k body
   no-row : number ≡ LENGTH → fault ≡ 2 → size t < 1 → Broken t number r fault k body
   many-rows : number ≡ LENGTH → fault ≡ 3 → 512 < size t → Broken t number r fault k body
-  no-kind : number ≡ KIND → OUT < kindOf t r → Broken t number r fault k body
-  spare-word : number ≡ SPARE → usedWords (kindOf t r) < k → k ≤ 5 → (word t r k ≡ 0 → ⊥) → Broken t number r fault k body
-  no-code : (n : ℕ) → number ≡ CODE → fieldAt (kindOf t r) k ≡ code n → n ≤ word t r k → Broken t number r fault k body
-  place-behind : number ≡ PLACE → Behind (kindBefore t r) (kindOf t r) fault → Broken t number r fault k body
-  place-among : number ≡ PLACE → body ≡ bodyOf t r → Among (kindOf t r) (stackAt t r) fault → Broken t number r fault k body
-  nine-deep : number ≡ DEPTH → body ≡ bodyOf t r → kindOf t r ≡ FOR → 8 ≤ length (stackAt t r) → Broken t number r fault k body
+  no-kind : number ≡ KIND → OUT < kindAt t r → Broken t number r fault k body
+  spare-word : number ≡ SPARE → usedWords (kindAt t r) < k → k ≤ 5 → (word t r k ≡ 0 → ⊥) → Broken t number r fault k body
+  no-code : (n : ℕ) → number ≡ CODE → fieldAt (kindAt t r) k ≡ code n → n ≤ word t r k → Broken t number r fault k body
+  place-behind : number ≡ PLACE → Behind (kindBefore t r) (kindAt t r) fault → Broken t number r fault k body
+  place-among : number ≡ PLACE → body ≡ bodyOf t r → Among (kindAt t r) (stackAt t r) fault → Broken t number r fault k body
+  nine-deep : number ≡ DEPTH → body ≡ bodyOf t r → kindAt t r ≡ FOR → 8 ≤ length (stackAt t r) → Broken t number r fault k body
   hidden-name : number ≡ NAME → Operand t r k → Hidden t r (word t r k) fault body → Broken t number r fault k body
-  wrong-sort : number ≡ TYPE → Operand t r k → fault ≡ wantedSort (kindOf t r) k → (sortOf t (word t r k) ≡ fault → ⊥) → Broken t number r fault k body
+  wrong-sort : number ≡ TYPE → Operand t r k → fault ≡ wantedSort (kindAt t r) k → (sortOf t (word t r k) ≡ fault → ⊥) → Broken t number r fault k body
   loop-open : number ≡ OPEN → r ≡ size t → body ≡ bodyOf t r → fault ≡ 1 → outside (stackAt t r) ≡ false → Broken t number r fault k body
   no-out : number ≡ OPEN → r ≡ size t → fault ≡ 2 → outside (stackAt t r) ≡ true → (kindBefore t r ≡ OUT → ⊥) → Broken t number r fault k body
 
@@ -242,22 +242,22 @@ unfolding sight hiddenBody
 sight-says t r v n =
     elim (decLt v r) [
       | no l ↦ later (rw (le-ltb v r (omega arith))) (omega arith)
-      | yes l ↦ elim (decLt NEXT (kindOf t v)) [
-        | yes q ↦ valueless (rw (lt-ltb v r l, lt-leb (kindOf t v) NEXT q)) l q
+      | yes l ↦ elim (decLt NEXT (kindAt t v)) [
+        | yes q ↦ valueless (rw (lt-ltb v r l, lt-leb (kindAt t v) NEXT q)) l q
         | no q ↦ loops (bodyOpen (size t) (home t v) (readStack t r)) (endPassed t r v) (bodyOpen (size t) (home t v) (stackAt t r)) l (omega arith) refl refl refl
       ]
     ]
   where
-    loops : (c d e : Bool) → v < r → kindOf t v ≤ NEXT → bodyOpen (size t) (home t v) (readStack t r) ≡ c → endPassed t r v ≡ d → bodyOpen (size t) (home t v) (stackAt t r) ≡ e
+    loops : (c d e : Bool) → v < r → kindAt t v ≤ NEXT → bodyOpen (size t) (home t v) (readStack t r) ≡ c → endPassed t r v ≡ d → bodyOpen (size t) (home t v) (stackAt t r) ≡ e
         → Hidden t r v (sight t r v) (hiddenBody t (sight t r v) v)
-    loops true true e l q ec ed ee = absurd (n (rw (lt-ltb v r l, le-leb (kindOf t v) NEXT q, ec, ed)))
-    loops true false e l q ec ed ee = let f : sight t r v ≡ 5 = rw (lt-ltb v r l, le-leb (kindOf t v) NEXT q, ec, ed) in unended f l (rw f) ed
+    loops true true e l q ec ed ee = absurd (n (rw (lt-ltb v r l, le-leb (kindAt t v) NEXT q, ec, ed)))
+    loops true false e l q ec ed ee = let f : sight t r v ≡ 5 = rw (lt-ltb v r l, le-leb (kindAt t v) NEXT q, ec, ed) in unended f l (rw f) ed
     loops false d true l q ec ed ee =
-        let f : sight t r v ≡ 4 = rw (lt-ltb v r l, le-leb (kindOf t v) NEXT q, ec, ee) in
+        let f : sight t r v ≡ 4 = rw (lt-ltb v r l, le-leb (kindAt t v) NEXT q, ec, ee) in
         let h : hiddenBody t (sight t r v) v ≡ home t v = rw f in
         entered f l h (rw h ec) (rw h ee)
     loops false d false l q ec ed ee =
-        let f : sight t r v ≡ 3 = rw (lt-ltb v r l, le-leb (kindOf t v) NEXT q, ec, ee) in
+        let f : sight t r v ≡ 3 = rw (lt-ltb v r l, le-leb (kindAt t v) NEXT q, ec, ee) in
         let h : hiddenBody t (sight t r v) v ≡ home t v = rw f in
         closed f l h (rw h ee)
 
@@ -291,19 +291,19 @@ length-says t f =
 spare-says : (t : List ℕ) (r : ℕ) → spareRight t r ≡ false → Broken t SPARE r 0 (spareWord t r) 0
 unfolding spareWord
 spare-says t r f =
-    let h = first-fails (isZero t r) (5 - usedWords (kindOf t r)) (usedWords (kindOf t r) + 1) (fails (spare-told t r) f) in
+    let h = first-fails (isZero t r) (5 - usedWords (kindAt t r)) (usedWords (kindAt t r) + 1) (fails (spare-told t r) f) in
     spare-word refl (omega arith) (omega arith) (eqb-false _ 0 (h .0))
 
 code-says : (t : List ℕ) (r : ℕ) → codeRight t r ≡ false → Broken t CODE r 0 (codeWord t r) 0
 unfolding codeWord
 code-says t r f =
     let h = first-fails (isCode t r) 5 1 (fails (code-told t r) f) in
-    go (fieldAt (kindOf t r) (codeWord t r)) refl (h .0)
+    go (fieldAt (kindAt t r) (codeWord t r)) refl (h .0)
   where
     some-word : true ≡ false → Broken t CODE r 0 (codeWord t r) 0
     some-word z = let y : _≡_ {A = ℕ} 0 1 = ap (λ b. cond b 0 1) z in absurd (omega arith)
 
-    go : (u : Field) → fieldAt (kindOf t r) (codeWord t r) ≡ u → allows u (word t r (codeWord t r)) ≡ false → Broken t CODE r 0 (codeWord t r) 0
+    go : (u : Field) → fieldAt (kindAt t r) (codeWord t r) ≡ u → allows u (word t r (codeWord t r)) ≡ false → Broken t CODE r 0 (codeWord t r) 0
     go spare e z = some-word z
     go value e z = some-word z
     go (code n) e z = no-code n refl e (ltb-false _ n z)
@@ -312,31 +312,31 @@ code-says t r f =
 place-says : (t : List ℕ) (r : ℕ) → placeRight t r ≡ false → Broken t PLACE r (placeFault t r) 0 (bodyOf t r)
 unfolding placeFault
 place-says t r f = let n = fails {x = placeFault t r} (place-told t r) f in
-    elim (ℕ-discrete (followsFault (kindBefore t r) (kindOf t r)) 0) [
-      | yes z ↦ let e : placeFault t r ≡ standsFault (kindOf t r) (stackAt t r) = rw (eq-eqb _ 0 z) in
-          rw e (place-among refl refl (stands-says (kindOf t r) (stackAt t r) (λ q. n (e ∙ q))))
-      | no z ↦ let e : placeFault t r ≡ followsFault (kindBefore t r) (kindOf t r) = rw (ne-eqb _ 0 z) in
-          rw e (place-behind refl (follows-says (kindBefore t r) (kindOf t r) z))
+    elim (ℕ-discrete (followsFault (kindBefore t r) (kindAt t r)) 0) [
+      | yes z ↦ let e : placeFault t r ≡ standsFault (kindAt t r) (stackAt t r) = rw (eq-eqb _ 0 z) in
+          rw e (place-among refl refl (stands-says (kindAt t r) (stackAt t r) (λ q. n (e ∙ q))))
+      | no z ↦ let e : placeFault t r ≡ followsFault (kindBefore t r) (kindAt t r) = rw (ne-eqb _ 0 z) in
+          rw e (place-behind refl (follows-says (kindBefore t r) (kindAt t r) z))
     ]
 
 depth-says : (t : List ℕ) (r : ℕ) → depthRight t r ≡ false → Broken t DEPTH r 0 0 (bodyOf t r)
 unfolding depthRight
 depth-says t r f =
-    elim (ℕ-discrete (kindOf t r) FOR) [
-      | yes x ↦ nine-deep refl refl x (ltb-false (length (stackAt t r)) 8 (rw (eq-eqb (kindOf t r) FOR x) at f))
-      | no x ↦ let z : true ≡ false = rw (ne-eqb (kindOf t r) FOR x) at f in let y : _≡_ {A = ℕ} 0 1 = ap (λ b. cond b 0 1) z in absurd (omega arith)
+    elim (ℕ-discrete (kindAt t r) FOR) [
+      | yes x ↦ nine-deep refl refl x (ltb-false (length (stackAt t r)) 8 (rw (eq-eqb (kindAt t r) FOR x) at f))
+      | no x ↦ let z : true ≡ false = rw (ne-eqb (kindAt t r) FOR x) at f in let y : _≡_ {A = ℕ} 0 1 = ap (λ b. cond b 0 1) z in absurd (omega arith)
     ]
 
 name-says : (t : List ℕ) (r : ℕ) → namesRight t r ≡ false → Broken t NAME r (sight t r (word t r (hiddenWord t r))) (hiddenWord t r) (hiddenBody t (sight t r (word t r (hiddenWord t r))) (word t r (hiddenWord t r)))
 unfolding hiddenWord
 name-says t r f =
-    let h = first-fails (isSeen t r) (operandCount (kindOf t r)) (firstOperand (kindOf t r)) (fails (names-told t r) f) in
+    let h = first-fails (isSeen t r) (operandCount (kindAt t r)) (firstOperand (kindAt t r)) (fails (names-told t r) f) in
     hidden-name refl (h .1, h .2) (sight-says t r _ (eqb-false _ 0 (h .0)))
 
-type-says : (t : List ℕ) (r : ℕ) → typesRight t r ≡ false → Broken t TYPE r (wantedSort (kindOf t r) (mistypedWord t r)) (mistypedWord t r) 0
+type-says : (t : List ℕ) (r : ℕ) → typesRight t r ≡ false → Broken t TYPE r (wantedSort (kindAt t r) (mistypedWord t r)) (mistypedWord t r) 0
 unfolding mistypedWord
 type-says t r f =
-    let h = first-fails (isSorted t r) (operandCount (kindOf t r)) (firstOperand (kindOf t r)) (fails (types-told t r) f) in
+    let h = first-fails (isSorted t r) (operandCount (kindAt t r)) (firstOperand (kindAt t r)) (fails (types-told t r) f) in
     wrong-sort refl (h .1, h .2) refl (eqb-false _ _ (h .0))
 
 open-says : (t : List ℕ) → endRight t ≡ false → Broken t OPEN (size t) (cond (outside (stackAt t (size t))) 2 1) 0 (bodyOf t (size t))
@@ -347,9 +347,9 @@ open-says t f = go (outside (stackAt t (size t))) refl f
     go true e f = no-out refl refl refl e (eqb-false _ OUT f)
     go false e f = loop-open refl refl refl refl e
 
-kind-says : (t : List ℕ) (r : ℕ) → kindRight t r ≡ false → OUT < kindOf t r
+kind-says : (t : List ℕ) (r : ℕ) → kindRight t r ≡ false → OUT < kindAt t r
 unfolding kindRight
-kind-says t r f = leb-false (kindOf t r) OUT f
+kind-says t r f = leb-false (kindAt t r) OUT f
 
 -- a refused row
 row-says : (t : List ℕ) (r x : ℕ) → x ≡ rowRefusal t r → (x ≡ 0 → ⊥) → Broken t x r (explained t x r .fault) (explained t x r .word) (explained t x r .body)

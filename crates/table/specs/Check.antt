@@ -7,7 +7,7 @@ use mathlib.Core.Bool.{Bool, true, false, cond, _&&_, _||_}
 use mathlib.Core.List.{List, [], _∷_}
 use lib.Dec.{eqb, leb, ltb}
 use lib.ListN.{length}
-use Rattle.table.specs.Rows.{kindOf, word, size, INPUT, CONST, FOR, ARG, NEXT, END, OUT, allows, fieldAt, usedWords, operandCount, firstOperand, sortOf, wantedSort}
+use Rattle.table.specs.Rows.{kindAt, word, size, INPUT, CONST, FOR, ARG, NEXT, END, OUT, allows, fieldAt, usedWords, operandCount, firstOperand, sortOf, wantedSort}
 use Rattle.table.specs.Scan.{Loop, stackAt, visible}
 
 -- the numbers
@@ -44,7 +44,7 @@ lengthRight t = eqb (length t % 6) 0 && (leb 1 (size t) && leb (size t) 512)
 
 -- 2 KIND: 'the kind is at most 8'
 unfoldable pub kindRight : List ℕ → ℕ → Bool
-kindRight t r = leb (kindOf t r) OUT
+kindRight t r = leb (kindAt t r) OUT
 
 -- 3 SPARE: 'each word that the kind does not use is 0'. So many words of row r, from word k up, are 0.
 unfoldable pub zerosFrom : ℕ → List ℕ → ℕ → ℕ → Bool
@@ -52,12 +52,12 @@ zerosFrom zero t r k = true
 zerosFrom (suc m) t r k = eqb (word t r k) 0 && zerosFrom m t r (k + 1)
 
 unfoldable pub spareRight : List ℕ → ℕ → Bool
-spareRight t r = zerosFrom (5 - usedWords (kindOf t r)) t r (usedWords (kindOf t r) + 1)
+spareRight t r = zerosFrom (5 - usedWords (kindAt t r)) t r (usedWords (kindAt t r) + 1)
 
 -- 4 CODE: 'OP's a is at most 7; FOR's d is at most 5 and its e at most 4', as the table of row kinds says of each word. So many words of row r,
 -- from word k up, are codes where their kind has codes.
 abbrev pub isCode : List ℕ → ℕ → ℕ → Bool
-isCode t r k = allows (fieldAt (kindOf t r) k) (word t r k)
+isCode t r k = allows (fieldAt (kindAt t r) k) (word t r k)
 
 unfoldable pub codesFrom : ℕ → List ℕ → ℕ → ℕ → Bool
 codesFrom zero t r k = true
@@ -69,7 +69,7 @@ codeRight t r = codesFrom 5 t r 1
 -- 5 PLACE. The kind of the row before; the first row stands as if behind an INPUT.
 abbrev pub kindBefore : List ℕ → ℕ → ℕ
 kindBefore t zero = INPUT
-kindBefore t (suc r) = kindOf t r
+kindBefore t (suc r) = kindAt t r
 
 -- 'b is OUT: k is OUT.' 'b is NEXT: k is NEXT or END.' 'k is INPUT or CONST: b is INPUT or CONST.' 'k is ARG: b is FOR or ARG.'
 -- Rows are refused in order, so it is enough to look at the row before: an INPUT behind an INPUT or CONST has only such rows before it,
@@ -100,11 +100,11 @@ stands kind s =
     cond (eqb kind NEXT) (argLeft s) (cond (eqb kind END) (allServed s) (cond (eqb kind OUT) (outside s) true))
 
 unfoldable pub placeRight : List ℕ → ℕ → Bool
-placeRight t r = follows (kindBefore t r) (kindOf t r) && stands (kindOf t r) (stackAt t r)
+placeRight t r = follows (kindBefore t r) (kindAt t r) && stands (kindAt t r) (stackAt t r)
 
 -- 6 DEPTH: 'a FOR has at most 7 loops open before it'
 unfoldable pub depthRight : List ℕ → ℕ → Bool
-depthRight t r = cond (eqb (kindOf t r) FOR) (ltb (length (stackAt t r)) 8) true
+depthRight t r = cond (eqb (kindAt t r) FOR) (ltb (length (stackAt t r)) 8) true
 
 -- 7 NAME: 'every operand is visible'. So many words of row r, from word k up, name visible values.
 unfoldable pub namesFrom : ℕ → List ℕ → ℕ → ℕ → Bool
@@ -112,15 +112,15 @@ namesFrom zero t r k = true
 namesFrom (suc m) t r k = visible t r (word t r k) && namesFrom m t r (k + 1)
 
 unfoldable pub namesRight : List ℕ → ℕ → Bool
-namesRight t r = namesFrom (operandCount (kindOf t r)) t r (firstOperand (kindOf t r))
+namesRight t r = namesFrom (operandCount (kindAt t r)) t r (firstOperand (kindAt t r))
 
 -- 8 TYPE: 'every operand has the sort that is wanted there'
 unfoldable pub typesFrom : ℕ → List ℕ → ℕ → ℕ → Bool
 typesFrom zero t r k = true
-typesFrom (suc m) t r k = eqb (sortOf t (word t r k)) (wantedSort (kindOf t r) k) && typesFrom m t r (k + 1)
+typesFrom (suc m) t r k = eqb (sortOf t (word t r k)) (wantedSort (kindAt t r) k) && typesFrom m t r (k + 1)
 
 unfoldable pub typesRight : List ℕ → ℕ → Bool
-typesRight t r = typesFrom (operandCount (kindOf t r)) t r (firstOperand (kindOf t r))
+typesRight t r = typesFrom (operandCount (kindAt t r)) t r (firstOperand (kindAt t r))
 
 -- 9 OPEN: 'every loop is closed, and there is an OUT'. Below an OUT there are only OUTs, so there is one exactly if the last row is one.
 unfoldable pub endRight : List ℕ → Bool

@@ -13,7 +13,7 @@ use mathlib.Core.List.{List, [], _∷_}
 use mathlib.Core.Path.{_≡_}
 use lib.Dec.{eqb, leb, ltb}
 use lib.ListN.{length}
-use Rattle.table.specs.Rows.{kindOf, word, size, CONST, FOR, ARG, NEXT, END, OUT, usedWords, operandCount, firstOperand, sortOf, wantedSort}
+use Rattle.table.specs.Rows.{kindAt, word, size, CONST, FOR, ARG, NEXT, END, OUT, usedWords, operandCount, firstOperand, sortOf, wantedSort}
 use Rattle.table.specs.Scan.{Loop, stackAt, bodyOf, readStack, home, bodyOpen, endPassed}
 use Rattle.table.specs.Bodies.{nextsIn}
 use Rattle.table.specs.Check.{LENGTH, SPARE, CODE, PLACE, DEPTH, NAME, TYPE, OPEN, isCode, kindBefore, outside, answer, tableRefusal}
@@ -28,7 +28,7 @@ abbrev pub isZero : List ℕ → ℕ → ℕ → Bool
 isZero t r k = eqb (word t r k) 0
 
 unfoldable pub spareWord : List ℕ → ℕ → ℕ
-spareWord t r = firstFrom (isZero t r) (5 - usedWords (kindOf t r)) (usedWords (kindOf t r) + 1)
+spareWord t r = firstFrom (isZero t r) (5 - usedWords (kindAt t r)) (usedWords (kindAt t r) + 1)
 
 -- 4 CODE
 unfoldable pub codeWord : List ℕ → ℕ → ℕ
@@ -59,15 +59,15 @@ standsFault kind s =
 
 unfoldable pub placeFault : List ℕ → ℕ → ℕ
 placeFault t r =
-    let before = followsFault (kindBefore t r) (kindOf t r) in
-    cond (eqb before 0) (standsFault (kindOf t r) (stackAt t r)) before
+    let before = followsFault (kindBefore t r) (kindAt t r) in
+    cond (eqb before 0) (standsFault (kindAt t r) (stackAt t r)) before
 
 -- 7 NAME. Value v seen from row r: 1 no earlier row, 2 an END or OUT, 3 of a loop that is closed, 4 of the loop that an ARG enters,
 -- 5 a NEXT whose END has not come.
 unfoldable pub sight : List ℕ → ℕ → ℕ → ℕ
 sight t r v =
     cond (ltb v r)
-    (cond (leb (kindOf t v) NEXT)
+    (cond (leb (kindAt t v) NEXT)
     (cond (bodyOpen (size t) (home t v) (readStack t r))
     (cond (endPassed t r v) 0 5)
     (cond (bodyOpen (size t) (home t v) (stackAt t r)) 4 3))
@@ -78,7 +78,7 @@ abbrev pub isSeen : List ℕ → ℕ → ℕ → Bool
 isSeen t r k = eqb (sight t r (word t r k)) 0
 
 unfoldable pub hiddenWord : List ℕ → ℕ → ℕ
-hiddenWord t r = firstFrom (isSeen t r) (operandCount (kindOf t r)) (firstOperand (kindOf t r))
+hiddenWord t r = firstFrom (isSeen t r) (operandCount (kindAt t r)) (firstOperand (kindAt t r))
 
 -- the loop that a hidden value belongs to: for 3 and 4 its home, for 5 the loop that the NEXT stands in
 unfoldable pub hiddenBody : List ℕ → ℕ → ℕ → ℕ
@@ -86,10 +86,10 @@ hiddenBody t fault v = cond (ltb fault 3) 0 (cond (eqb fault 5) (bodyOf t v) (ho
 
 -- 8 TYPE
 abbrev pub isSorted : List ℕ → ℕ → ℕ → Bool
-isSorted t r k = eqb (sortOf t (word t r k)) (wantedSort (kindOf t r) k)
+isSorted t r k = eqb (sortOf t (word t r k)) (wantedSort (kindAt t r) k)
 
 unfoldable pub mistypedWord : List ℕ → ℕ → ℕ
-mistypedWord t r = firstFrom (isSorted t r) (operandCount (kindOf t r)) (firstOperand (kindOf t r))
+mistypedWord t r = firstFrom (isSorted t r) (operandCount (kindAt t r)) (firstOperand (kindAt t r))
 
 -- 1 LENGTH: 1 the last row is not whole, 2 no rows, 3 more than 512
 unfoldable pub lengthFault : List ℕ → ℕ
@@ -129,7 +129,7 @@ explained t number r =
     (cond (eqb number PLACE) (loopDetail t r (placeFault t r))
     (cond (eqb number DEPTH) (loopDetail t r 0)
     (cond (eqb number NAME) (nameDetail t r)
-    (cond (eqb number TYPE) (detail (wantedSort (kindOf t r) (mistypedWord t r)) (mistypedWord t r) 0 0 0)
+    (cond (eqb number TYPE) (detail (wantedSort (kindAt t r) (mistypedWord t r)) (mistypedWord t r) 0 0 0)
     (cond (eqb number OPEN) (loopDetail t r (cond (outside (stackAt t r)) 2 1)) (detail 0 0 0 0 0))))))))
 
 -- a table told: the check's number and row, and what they are explained by

@@ -1,5 +1,5 @@
 -- A loop table as its words: rows of six, the words each kind uses, the operands, the sort of a value.
--- Main names: `kindOf`, `word`, `size`, the table `rowKinds`, and what is read from it: `fieldAt`, `usedWords`, `operandCount`, `firstOperand`,
+-- Main names: `kindAt`, `word`, `size`, the table `rowKinds`, and what is read from it: `fieldAt`, `usedWords`, `operandCount`, `firstOperand`,
 -- `wantedSort`; `sortOf`.
 -- Assumes nothing.
 use Prim.Native.Nat.{ℕ, zero, suc, _+_, _*_, _/_, _≤_}
@@ -11,8 +11,8 @@ use lib.Dec.{eqb, leb, ltb}
 use lib.ListN.{getD, length}
 
 -- 'A table is a list of words, six to a row: its kind, then its words a to e.' Words past the end read as 0.
-abbrev pub kindOf : List ℕ → ℕ → ℕ
-kindOf t r = getD t (6 * r) 0
+abbrev pub kindAt : List ℕ → ℕ → ℕ
+kindAt t r = getD t (6 * r) 0
 
 -- word a is `word t r 1`, word e is `word t r 5`
 abbrev pub word : List ℕ → ℕ → ℕ → ℕ
@@ -153,7 +153,7 @@ wantedSort kind k = sortNamed (fieldAt kind k)
 
 -- '0 for words, 1 for flags. The value of an OP with code 3 to 7 is a flag; every other value is a word.'
 unfoldable pub sortOf : List ℕ → ℕ → ℕ
-sortOf t v = cond (eqb (kindOf t v) OP) (cond (leb 3 (word t v 1)) 1 0) 0
+sortOf t v = cond (eqb (kindAt t v) OP) (cond (leb 3 (word t v 1)) 1 0) 0
 
 -- ---- laws
 

@@ -6,7 +6,7 @@ use Prim.Native.Nat.{ℕ, zero, suc, _+_}
 use mathlib.Core.Bool.{Bool, true, false, cond, not, _&&_}
 use mathlib.Core.List.{List, [], _∷_}
 use lib.Dec.{eqb, leb, ltb}
-use Rattle.table.specs.Rows.{kindOf, size, FOR, ARG, NEXT, END, CONST}
+use Rattle.table.specs.Rows.{kindAt, size, FOR, ARG, NEXT, END, CONST}
 
 -- 'For each open loop three numbers are kept: its FOR row, its ARGs and its NEXTs so far.'
 pub record Loop : Type 0 where
@@ -42,7 +42,7 @@ after kind r s =
 -- the open loops before row r, innermost first
 unfoldable pub stackAt : List ℕ → ℕ → List Loop
 stackAt t zero = []
-stackAt t (suc r) = after (kindOf t r) r (stackAt t r)
+stackAt t (suc r) = after (kindAt t r) r (stackAt t r)
 
 -- the innermost body, in a table of n rows
 abbrev pub inner : ℕ → List Loop → ℕ
@@ -55,7 +55,7 @@ bodyOf t r = inner (size t) (stackAt t r)
 
 -- 'A row's operands are read in the body that the row stands in, but an ARG's in the body around its loop.'
 unfoldable pub readStack : List ℕ → ℕ → List Loop
-readStack t r = cond (eqb (kindOf t r) ARG) (outward (stackAt t r)) (stackAt t r)
+readStack t r = cond (eqb (kindAt t r) ARG) (outward (stackAt t r)) (stackAt t r)
 
 unfoldable pub reads : List ℕ → ℕ → ℕ
 reads t r = inner (size t) (readStack t r)
@@ -67,7 +67,7 @@ homeBy n kind r s =
     cond (leb kind CONST) n (cond (eqb kind FOR) r (cond (eqb kind NEXT) (inner n (outward s)) (inner n s)))
 
 unfoldable pub home : List ℕ → ℕ → ℕ
-home t v = homeBy (size t) (kindOf t v) v (stackAt t v)
+home t v = homeBy (size t) (kindAt t v) v (stackAt t v)
 
 -- the loop of FOR row b is among s
 abbrev pub holds : ℕ → List Loop → Bool
@@ -80,10 +80,10 @@ bodyOpen n b s = cond (eqb b n) true (holds b s)
 
 -- 'for a NEXT, its own loop no longer open before r'
 unfoldable pub endPassed : List ℕ → ℕ → ℕ → Bool
-endPassed t r v = cond (eqb (kindOf t v) NEXT) (not (holds (bodyOf t v) (stackAt t r))) true
+endPassed t r v = cond (eqb (kindAt t v) NEXT) (not (holds (bodyOf t v) (stackAt t r))) true
 
 -- 'Visible from row r is a row v with': an earlier row of kind 0 to 6, 'its home body open where the operands of r are read', and not within a
 -- NEXT's own loop
 unfoldable pub visible : List ℕ → ℕ → ℕ → Bool
 visible t r v =
-    ltb v r && (leb (kindOf t v) NEXT && (bodyOpen (size t) (home t v) (readStack t r) && endPassed t r v))
+    ltb v r && (leb (kindAt t v) NEXT && (bodyOpen (size t) (home t v) (readStack t r) && endPassed t r v))

@@ -6,7 +6,7 @@ ghost use mathlib.Core.Bool.{true, cond};
 ghost use lib.Dec.{eqb, ltb};
 ghost use mathlib.Core.List.{[], _∷_};
 ghost use lib.ListN.{length, getD};
-ghost use Rattle.table.specs.Rows.{kindOf, word, size, inUse, named, coded, allows, fieldsOf, fieldAt, usedWords, operandCount, firstOperand, sortOf, wantedSort};
+ghost use Rattle.table.specs.Rows.{kindAt, word, size, inUse, named, coded, allows, fieldsOf, fieldAt, usedWords, operandCount, firstOperand, sortOf, wantedSort};
 ghost use Rattle.table.specs.Said.{fieldOf, said};
 ghost use Rattle.table.specs.Scan.{after, inner, homeBy, holds, bodyOpen, stackAt};
 ghost use Rattle.table.specs.Bodies.{nextsIn, operand};
@@ -227,7 +227,7 @@ fn wanted_sort(kind: u32, k: u32) -> u32
 
 pub fn kind_at(table: &[u32], r: u32) -> u32
     requires { ⌜ (r < size (now table)) × (r < 512) ⌝ }
-    ensures { λ k. ⌜ k ≡ kindOf (now (table .entry)) r ⌝ }
+    ensures { λ k. ⌜ k ≡ kindAt (now (table .entry)) r ⌝ }
 {
     table[(6 * r) as usize]
 }
@@ -761,7 +761,7 @@ fn by_name(
 
 fn by_type(table: &[u32], n: u32, r: u32) -> Clause
     requires { ⌜ (r < n) × (n ≤ 512) × (length (now table) ≡ 6 * n) ⌝ }
-    ensures { λ c. ⌜ (c .number ≡ 8) × (c .row ≡ r) × (detail (c .fault) (c .word) (c .body) (c .args) (c .nexts) ≡ detail (wantedSort (kindOf (now (table .entry)) r) (mistypedWord (now (table .entry)) r)) (mistypedWord (now (table .entry)) r) 0 0 0) ⌝ }
+    ensures { λ c. ⌜ (c .number ≡ 8) × (c .row ≡ r) × (detail (c .fault) (c .word) (c .body) (c .args) (c .nexts) ≡ detail (wantedSort (kindAt (now (table .entry)) r) (mistypedWord (now (table .entry)) r)) (mistypedWord (now (table .entry)) r) 0 0 0) ⌝ }
 {
     let k = mistyped_word(table, n, r);
     by_word(TYPE, r, wanted_sort(kind_at(table, r), k), k, 0)

@@ -19,7 +19,7 @@ use lib.Dec.{eqb}
 use lib.ListN.{length, getElem?}
 use Rattle.step.specs.Kinds.{Kind, STREAM, GATE, CARRY, INVARIANT, SPLIT, OP, PICK, Input, in0, in1, in2, out0}
 use Rattle.graph.specs.Graph.{Node, absent}
-use Rattle.table.specs.Rows.{kindOf, word, size, sortOf}
+use Rattle.table.specs.Rows.{kindAt, word, size, sortOf}
 use Rattle.table.specs.Scan.{bodyOf, reads}
 use Rattle.table.specs.Bodies.{nextOf}
 use Rattle.structure.specs.Structure.{Structure}
@@ -59,37 +59,37 @@ module _ (t : List ℕ) where
   pub op-place : (r : ℕ) → r < size t → isOp t r ≡ true → getElem? (roles t) (nodeBase t r) ≡ some (opNode r)
   op-place r l h = let z : nodeBase t r ≡ nodeBase t r + 0 = omega arith in ap (getElem? (roles t)) z ∙ place r 0 (opNode r) _ l (op-roles t r h) refl
 
-  pub stream-place : (L : ℕ) → L < size t → kindOf t L ≡ 4 → getElem? (roles t) (nodeBase t L) ≡ some (stream L)
+  pub stream-place : (L : ℕ) → L < size t → kindAt t L ≡ 4 → getElem? (roles t) (nodeBase t L) ≡ some (stream L)
   stream-place L l k = let z : nodeBase t L ≡ nodeBase t L + 0 = omega arith in ap (getElem? (roles t)) z ∙ place L 0 (stream L) _ l (for-roles t L k) refl
 
-  pub gate-place : (L : ℕ) → L < size t → kindOf t L ≡ 4 → getElem? (roles t) (nodeBase t L + 1) ≡ some (gate L)
+  pub gate-place : (L : ℕ) → L < size t → kindAt t L ≡ 4 → getElem? (roles t) (nodeBase t L + 1) ≡ some (gate L)
   gate-place L l k = place L 1 (gate L) _ l (for-roles t L k) refl
 
-  pub guard-place : (L : ℕ) → L < size t → kindOf t L ≡ 4 → getElem? (roles t) (nodeBase t L + 2) ≡ some (guard L)
+  pub guard-place : (L : ℕ) → L < size t → kindAt t L ≡ 4 → getElem? (roles t) (nodeBase t L + 2) ≡ some (guard L)
   guard-place L l k = place L 2 (guard L) _ l (for-roles t L k) refl
 
-  pub carry-place : (a : ℕ) → a < size t → kindOf t a ≡ 5 → getElem? (roles t) (nodeBase t a) ≡ some (carry a)
+  pub carry-place : (a : ℕ) → a < size t → kindAt t a ≡ 5 → getElem? (roles t) (nodeBase t a) ≡ some (carry a)
   carry-place a l k = let z : nodeBase t a ≡ nodeBase t a + 0 = omega arith in ap (getElem? (roles t)) z ∙ place a 0 (carry a) _ l (arg-roles t a k) refl
 
-  pub arg-split-place : (a : ℕ) → a < size t → kindOf t a ≡ 5 → getElem? (roles t) (nodeBase t a + 1) ≡ some (argSplit a)
+  pub arg-split-place : (a : ℕ) → a < size t → kindAt t a ≡ 5 → getElem? (roles t) (nodeBase t a + 1) ≡ some (argSplit a)
   arg-split-place a l k = place a 1 (argSplit a) _ l (arg-roles t a k) refl
 
   copy-at : (L v j : ℕ) (n : Role) → v < size t → carried t L v ≡ true → getElem? (copy L v) j ≡ some n → getElem? (each (copy L) (carriedInto t L)) (2 * copyPlace t L v + j) ≡ some n
   unfolding carriedInto copyPlace
   copy-at L v j n l c h = piece-at (copy L) 2 (λ v. refl) (those (carried t L) (size t)) (length (those (carried t L) v)) j v n (those-at (carried t L) (size t) v l c) h
 
-  copy-place : (L v j : ℕ) (n : Role) → L < size t → kindOf t L ≡ 4 → v < size t → carried t L v ≡ true → getElem? (copy L v) j ≡ some n
+  copy-place : (L v j : ℕ) (n : Role) → L < size t → kindAt t L ≡ 4 → v < size t → carried t L v ≡ true → getElem? (copy L v) j ≡ some n
       → getElem? (roles t) (nodeBase t L + (3 + (2 * copyPlace t L v + j))) ≡ some n
   copy-place L v j n lL k lv c h =
       place L (3 + (2 * copyPlace t L v + j)) n _ lL (for-roles t L k)
       (elem-right (stream L ∷ gate L ∷ guard L ∷ []) (each (copy L) (carriedInto t L)) (2 * copyPlace t L v + j) ∙ copy-at L v j n lv c h)
 
-  pub copy-split-place : (L v : ℕ) → L < size t → kindOf t L ≡ 4 → v < size t → carried t L v ≡ true → getElem? (roles t) (nodeBase t L + (3 + 2 * copyPlace t L v)) ≡ some (copySplit L v)
+  pub copy-split-place : (L v : ℕ) → L < size t → kindAt t L ≡ 4 → v < size t → carried t L v ≡ true → getElem? (roles t) (nodeBase t L + (3 + 2 * copyPlace t L v)) ≡ some (copySplit L v)
   copy-split-place L v lL k lv c =
       let z : nodeBase t L + (3 + 2 * copyPlace t L v) ≡ nodeBase t L + (3 + (2 * copyPlace t L v + 0)) = omega arith in
       ap (getElem? (roles t)) z ∙ copy-place L v 0 (copySplit L v) lL k lv c refl
 
-  pub copy-invariant-place : (L v : ℕ) → L < size t → kindOf t L ≡ 4 → v < size t → carried t L v ≡ true → getElem? (roles t) (nodeBase t L + (4 + 2 * copyPlace t L v)) ≡ some (copyInvariant L v)
+  pub copy-invariant-place : (L v : ℕ) → L < size t → kindAt t L ≡ 4 → v < size t → carried t L v ≡ true → getElem? (roles t) (nodeBase t L + (4 + 2 * copyPlace t L v)) ≡ some (copyInvariant L v)
   copy-invariant-place L v lL k lv c =
       let z : nodeBase t L + (4 + 2 * copyPlace t L v) ≡ nodeBase t L + (3 + (2 * copyPlace t L v + 1)) = omega arith in
       ap (getElem? (roles t)) z ∙ copy-place L v 1 (copyInvariant L v) lL k lv c refl
@@ -107,10 +107,10 @@ module _ (t : List ℕ) where
 
   pub record RowsRight (rows : List ℕ) : Type 0 where
     pub ops : (r : ℕ) → r < size t → isOp t r ≡ true → RightRow t rows (nodeBase t r)
-    pub loops : (L : ℕ) → L < size t → kindOf t L ≡ 4 → RightRow t rows (nodeBase t L) × RightRow t rows (nodeBase t L + 1) × RightRow t rows (nodeBase t L + 2)
-    pub copies : (L v : ℕ) → L < size t → kindOf t L ≡ 4 → v < size t → carried t L v ≡ true
+    pub loops : (L : ℕ) → L < size t → kindAt t L ≡ 4 → RightRow t rows (nodeBase t L) × RightRow t rows (nodeBase t L + 1) × RightRow t rows (nodeBase t L + 2)
+    pub copies : (L v : ℕ) → L < size t → kindAt t L ≡ 4 → v < size t → carried t L v ≡ true
         → RightRow t rows (nodeBase t L + (3 + 2 * copyPlace t L v)) × RightRow t rows (nodeBase t L + (4 + 2 * copyPlace t L v))
-    pub args : (a : ℕ) → a < size t → kindOf t a ≡ 5 → RightRow t rows (nodeBase t a) × RightRow t rows (nodeBase t a + 1)
+    pub args : (a : ℕ) → a < size t → kindAt t a ≡ 5 → RightRow t rows (nodeBase t a) × RightRow t rows (nodeBase t a + 1)
 
   pub all-right : (rows : List ℕ) → RowsRight rows → (i : ℕ) → RightRow t rows i
   all-right rows R i n h = go n h (listed-role-is-real t n (there (roles t) i n h))
@@ -118,10 +118,10 @@ module _ (t : List ℕ) where
       at : (n : Role) (j : ℕ) → getElem? (roles t) i ≡ some n → getElem? (roles t) j ≡ some n → RightRow t rows j → RowIs rows i (plainNode t n)
       at n j h p r = subst (λ (x : ℕ). RowIs rows x (plainNode t n)) (one-place j i n p h) (r n p)
 
-      for : (L : ℕ) → isFor t L ≡ true → kindOf t L ≡ 4
-      for L e = eqb-true (kindOf t L) 4 e
+      for : (L : ℕ) → isFor t L ≡ true → kindAt t L ≡ 4
+      for L e = eqb-true (kindAt t L) 4 e
 
-      copied : (L v : ℕ) → isFor t L && carried t L v ≡ true → (kindOf t L ≡ 4) × (carried t L v ≡ true)
+      copied : (L v : ℕ) → isFor t L && carried t L v ≡ true → (kindAt t L ≡ 4) × (carried t L v ≡ true)
       copied L v e = let b = and-both (isFor t L) (carried t L v) e in (for L (b .0), b .1)
 
       go : (n : Role) → getElem? (roles t) i ≡ some n → Real t n → RowIs rows i (plainNode t n)
@@ -135,8 +135,8 @@ module _ (t : List ℕ) where
       go (copyInvariant L v) h l =
           let c = copied L v (l .there) in
           at (copyInvariant L v) _ h (copy-invariant-place L v (l .row) (c .0) (l .value) (c .1)) (R .copies L v (l .row) (c .0) (l .value) (c .1) .1)
-      go (carry a) h l = at (carry a) _ h (carry-place a (l .row) (eqb-true (kindOf t a) 5 (l .there))) (R .args a (l .row) (eqb-true (kindOf t a) 5 (l .there)) .0)
-      go (argSplit a) h l = at (argSplit a) _ h (arg-split-place a (l .row) (eqb-true (kindOf t a) 5 (l .there))) (R .args a (l .row) (eqb-true (kindOf t a) 5 (l .there)) .1)
+      go (carry a) h l = at (carry a) _ h (carry-place a (l .row) (eqb-true (kindAt t a) 5 (l .there))) (R .args a (l .row) (eqb-true (kindAt t a) 5 (l .there)) .0)
+      go (argSplit a) h l = at (argSplit a) _ h (arg-split-place a (l .row) (eqb-true (kindAt t a) 5 (l .there))) (R .args a (l .row) (eqb-true (kindAt t a) 5 (l .there)) .1)
 
 module _ (t : List ℕ) (S : Structure t) where
   -- ---- the words of each node
@@ -164,39 +164,39 @@ module _ (t : List ℕ) (S : Structure t) where
   no-more : (a : ℕ) → a + 0 ≡ a
   no-more a = omega arith
 
-  pub op-node : (r : ℕ) → r < size t → kindOf t r ≡ 2 → plainNode t (opNode r) ≡ node OP (word t r 1) 0 (operandNumber t r 0) (operandNumber t r 1) absent (wireBase t r)
+  pub op-node : (r : ℕ) → r < size t → kindAt t r ≡ 2 → plainNode t (opNode r) ≡ node OP (word t r 1) 0 (operandNumber t r 0) (operandNumber t r 1) absent (wireBase t r)
   op-node r l k =
       let h : isOp t r ≡ true = rw k in
-      let c : cond (eqb (kindOf t r) 2) (word t r 1) 0 ≡ word t r 1 = rw k in
+      let c : cond (eqb (kindAt t r) 2) (word t r 1) 0 ≡ word t r 1 = rw k in
       words-are (opNode r) OP _ _ _ _ absent _ (op-is-OP t r k) (real-row (opNode r) _ (op-place t r l h)) refl refl (rw k) (op-number t r l h ∙ no-more (wireBase t r))
       ∙ ap (λ (x : ℕ). node OP x 0 (operandNumber t r 0) (operandNumber t r 1) absent (wireBase t r)) c
 
-  pub pick-node : (r : ℕ) → r < size t → kindOf t r ≡ 3 → plainNode t (opNode r) ≡ node PICK 0 0 (operandNumber t r 0) (operandNumber t r 1) (operandNumber t r 2) (wireBase t r)
+  pub pick-node : (r : ℕ) → r < size t → kindAt t r ≡ 3 → plainNode t (opNode r) ≡ node PICK 0 0 (operandNumber t r 0) (operandNumber t r 1) (operandNumber t r 2) (wireBase t r)
   pick-node r l k =
       let h : isOp t r ≡ true = rw k in
-      let c : cond (eqb (kindOf t r) 2) (word t r 1) 0 ≡ 0 = rw k in
+      let c : cond (eqb (kindAt t r) 2) (word t r 1) 0 ≡ 0 = rw k in
       words-are (opNode r) PICK _ _ _ _ (operandNumber t r 2) _ (pick-is-PICK t r k) (real-row (opNode r) _ (op-place t r l h)) refl refl (rw k) (op-number t r l h ∙ no-more (wireBase t r))
       ∙ ap (λ (x : ℕ). node PICK x 0 (operandNumber t r 0) (operandNumber t r 1) (operandNumber t r 2) (wireBase t r)) c
 
-  pub stream-node : (L : ℕ) → L < size t → kindOf t L ≡ 4
+  pub stream-node : (L : ℕ) → L < size t → kindAt t L ≡ 4
       → plainNode t (stream L) ≡ node STREAM (5 * word t L 4 + word t L 5) 0 (operandNumber t L 0) (operandNumber t L 1) (operandNumber t L 2) (wireBase t L)
   stream-node L l k = words-are (stream L) STREAM _ _ _ _ _ _ refl (real-row (stream L) _ (stream-place t L l k)) refl refl refl (stream-number t L l k .0 ∙ no-more (wireBase t L))
 
-  pub gate-node : (L : ℕ) → L < size t → kindOf t L ≡ 4 → plainNode t (gate L) ≡ node GATE 0 0 (wireBase t L) (wireBase t L + 1) absent (wireBase t L + 2)
+  pub gate-node : (L : ℕ) → L < size t → kindAt t L ≡ 4 → plainNode t (gate L) ≡ node GATE 0 0 (wireBase t L) (wireBase t L + 1) absent (wireBase t L + 2)
   gate-node L l k =
       words-are (gate L) GATE _ _ _ _ _ _ refl (real-row (gate L) _ (gate-place t L l k)) (stream-number t L l k .0 ∙ no-more (wireBase t L)) (stream-number t L l k .1) refl (gate-number t L l k .0)
 
-  pub guard-node : (L : ℕ) → L < size t → kindOf t L ≡ 4 → plainNode t (guard L) ≡ node OP (3 + word t L 5) 0 (operandNumber t L 0) (operandNumber t L 2) absent (wireBase t L + 4)
+  pub guard-node : (L : ℕ) → L < size t → kindAt t L ≡ 4 → plainNode t (guard L) ≡ node OP (3 + word t L 5) 0 (operandNumber t L 0) (operandNumber t L 2) absent (wireBase t L + 4)
   guard-node L l k = words-are (guard L) OP _ _ _ _ _ _ refl (real-row (guard L) _ (guard-place t L l k)) refl refl refl (guard-number t L l k)
 
-  pub copy-split-node : (L v : ℕ) → L < size t → kindOf t L ≡ 4 → v < size t → carried t L v ≡ true
+  pub copy-split-node : (L v : ℕ) → L < size t → kindAt t L ≡ 4 → v < size t → carried t L v ≡ true
       → plainNode t (copySplit L v) ≡ node SPLIT 0 (sortOf t v) (wireBase t L + 4) (valueNumber t v (reads t L)) absent (wireBase t L + (5 + 3 * copyPlace t L v))
   copy-split-node L v lL k lv c =
       let z : wireBase t L + (5 + (3 * copyPlace t L v + 0)) ≡ wireBase t L + (5 + 3 * copyPlace t L v) = omega arith in
       words-are (copySplit L v) SPLIT _ _ _ _ _ _ refl (real-row (copySplit L v) _ (copy-split-place t L v lL k lv c)) (guard-number t L lL k) refl refl
       (copy-number t L v 0 (output (copySplit L v) out0) lL k lv c refl ∙ z)
 
-  pub copy-invariant-node : (L v : ℕ) → L < size t → kindOf t L ≡ 4 → v < size t → carried t L v ≡ true
+  pub copy-invariant-node : (L v : ℕ) → L < size t → kindAt t L ≡ 4 → v < size t → carried t L v ≡ true
       → plainNode t (copyInvariant L v) ≡ node INVARIANT 0 (sortOf t v) (wireBase t L + 3) (wireBase t L + (5 + 3 * copyPlace t L v)) absent (wireBase t L + (7 + 3 * copyPlace t L v))
   copy-invariant-node L v lL k lv c =
       let z : wireBase t L + (5 + (3 * copyPlace t L v + 0)) ≡ wireBase t L + (5 + 3 * copyPlace t L v) = omega arith in
@@ -205,14 +205,14 @@ module _ (t : List ℕ) (S : Structure t) where
       (copy-number t L v 0 (output (copySplit L v) out0) lL k lv c refl ∙ z) refl
       (copy-number t L v 2 (output (copyInvariant L v) out0) lL k lv c refl ∙ y)
 
-  pub carry-node : (a : ℕ) → a < size t → kindOf t a ≡ 5
+  pub carry-node : (a : ℕ) → a < size t → kindAt t a ≡ 5
       → plainNode t (carry a) ≡ node CARRY 0 0 (wireBase t (bodyOf t a) + 1) (operandNumber t a 0) (operandNumber t (nextOf t a) 0) (wireBase t a)
   carry-node a l k =
       let r = S .arg-row a l k in
       let low = r .low in
       words-are (carry a) CARRY _ _ _ _ _ _ refl (real-row (carry a) _ (carry-place t a l k)) (stream-number t (bodyOf t a) (omega arith) (r .loop-for) .1) refl refl (carry-number t a l k ∙ no-more (wireBase t a))
 
-  pub arg-split-node : (a : ℕ) → a < size t → kindOf t a ≡ 5
+  pub arg-split-node : (a : ℕ) → a < size t → kindAt t a ≡ 5
       → plainNode t (argSplit a) ≡ node SPLIT 0 0 (wireBase t (bodyOf t a) + 1) (wireBase t a) absent (wireBase t a + 1)
   arg-split-node a l k =
       let r = S .arg-row a l k in

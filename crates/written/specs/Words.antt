@@ -22,7 +22,7 @@ use lib.ListN.{length, getElem?, length-append}
 use Rattle.step.specs.Kinds.{Kind, STREAM, GATE, CARRY, INVARIANT, SPLIT, FORK, DRAIN, OP, PICK, outputs, outputSort, out0, out1}
 use Rattle.graph.specs.Below.{joined, total}
 use Rattle.graph.specs.Graph.{Node}
-use Rattle.table.specs.Rows.{kindOf, size}
+use Rattle.table.specs.Rows.{kindAt, size}
 use Rattle.structure.specs.Structure.{Structure}
 use Rattle.lowered.specs.Gathered.{those, each}
 use Rattle.lowered.specs.Roles.{Role, opNode, stream, gate, guard, copySplit, copyInvariant, carry, argSplit, Wire, start, output, Use, result, sameWire}
@@ -62,7 +62,7 @@ outputs-long n PICK = refl
 
 -- every node before forks has one or two outputs
 pub one-or-two : (t : List ℕ) (n : Role) → (outputs (roleKind t n) ≡ 1) ⊎ (outputs (roleKind t n) ≡ 2)
-one-or-two t (opNode r) = inl (which (eqb (kindOf t r) 2))
+one-or-two t (opNode r) = inl (which (eqb (kindAt t r) 2))
   where
     which : (b : Bool) → outputs (cond b OP PICK) ≡ 1
     which true = refl
@@ -173,19 +173,19 @@ module _ (t : List ℕ) (S : Structure t) where
   start-place i l =
       let e = has-elem (those (isStart t) (size t)) i l in
       let f = those-from (isStart t) (size t) (e .0) (there (those (isStart t) (size t)) i (e .0) (e .1)) in
-      let k = leb-true (kindOf t (e .0)) 1 (f .1) in
+      let k = leb-true (kindAt t (e .0)) 1 (f .1) in
       let f0 = f .0 in
-      let all = all-starts t S (e .0) (omega arith) (λ r q. le-leb (kindOf t r) 1 (S .starts r (e .0) q (f .0) k)) in
+      let all = all-starts t S (e .0) (omega arith) (λ r q. le-leb (kindAt t r) 1 (S .starts r (e .0) q (f .0) k)) in
       let at = those-at (isStart t) (size t) (e .0) (f .0) (f .1) in
       let one : i ≡ length (those (isStart t) (e .0)) = sym (position-is ℕ-discrete (e .0) (those (isStart t) (size t)) i (those-once (isStart t) (size t)) (e .1))
       ∙ position-is ℕ-discrete (e .0) (those (isStart t) (size t)) (length (those (isStart t) (e .0))) (those-once (isStart t) (size t)) at in
       e .1 ∙ ap some (sym (one ∙ all))
 
-  pub start-row : (i : ℕ) → i < startTotal t → (i < size t) × (kindOf t i ≤ 1)
+  pub start-row : (i : ℕ) → i < startTotal t → (i < size t) × (kindAt t i ≤ 1)
   unfolding startRows
   start-row i l =
       let f = those-from (isStart t) (size t) i (there (those (isStart t) (size t)) i i (start-place i l)) in
-      (f .0, leb-true (kindOf t i) 1 (f .1))
+      (f .0, leb-true (kindAt t i) 1 (f .1))
 
   starts-by-number : each (startWords t) (startRows t) ≡ joined (startWords t) (startTotal t)
   unfolding startTotal

@@ -7,7 +7,7 @@ use lib.Dec.{eqb}
 use lib.Seq.{sets}
 use lib.ListN.{length}
 use Rattle.graph.specs.Below.{joined}
-use Rattle.table.specs.Rows.{kindOf}
+use Rattle.table.specs.Rows.{kindAt}
 use Rattle.lowered.specs.Lower.{startWords}
 use Rattle.lowered.specs.Gathered.{those}
 use Rattle.laid.specs.Those.{those-few}
@@ -53,7 +53,7 @@ add-write-start-2 : tie.Need-add-write-start-2 Inv-loop μ-loop
 add-write-start-2 c = omega arith
 
 write-start-requires : tie.Need-write-start-requires Inv-loop μ-loop
-write-start-requires c κs = let n = those-few (λ q. eqb (kindOf (c .before .before .before .before .before .before .before .args .table .now) q) 0) (c .before .before .before .before .loop .r) in (omega arith, omega arith)
+write-start-requires c κs = let n = those-few (λ q. eqb (kindAt (c .before .before .before .before .before .before .before .args .table .now) q) 0) (c .before .before .before .before .loop .r) in (omega arith, omega arith)
 
 add-r : tie.Need-add-r Inv-loop μ-loop
 add-r c = omega arith
