@@ -31,6 +31,21 @@ use Rattle.state.specs.Net.{Net, view, effectAt, stores, after, fire, isReady, 
 use Rattle.firing.specs.Acted.{actStores, Room, Reads, Within, Sees, Placed}
 use Rattle.firing.specs.declared.Row.{Row}
 
+-- ---- ready or not, from what was worked out
+
+module _ (g : List ℕ) (i : ℕ) (s : List ℕ) (f : Firing) (F : shown f ≡ effectAt (netOf g) i s) where
+  pub node-waits : f ≡ NotReady → (false ≡ isReady (fire (netOf g) i s)) × (s ≡ orElse (fire (netOf g) i s) s)
+  unfolding fire
+  node-waits e =
+      let q : effectAt (netOf g) i s ≡ none = sym F ∙ rw e in
+      (sym (ap (λ (o : Option Effect). isReady (after (netOf g) i s o)) q), sym (ap (λ (o : Option Effect). orElse (after (netOf g) i s o) s) q))
+
+  pub fires-ready : (a : Act) → f ≡ Fires a → true ≡ isReady (fire (netOf g) i s)
+  unfolding fire
+  fires-ready a e =
+      let q : effectAt (netOf g) i s ≡ some (effectOf a) = sym F ∙ rw e in
+      sym (ap (λ (o : Option Effect). isReady (after (netOf g) i s o)) q)
+
 -- ---- a node, read from its words
 
 module _ (o : Option Kind) (c s w0 w1 w2 f : ℕ) where
@@ -165,18 +180,6 @@ module _ (g : List ℕ) (i : ℕ) (h : i < nodeCount g) (r : Row) (R : Reads g i
     left-is q e = e ∙ ap₂ leftBy stepped-is (O ∙ ap (λ (n : ℕ). recordAt n s i) eW)
 
   module _ (s : List ℕ) (f : Firing) (F : shown f ≡ effectAt (netOf g) i s) where
-    pub node-waits : f ≡ NotReady → (false ≡ isReady (fire (netOf g) i s)) × (s ≡ orElse (fire (netOf g) i s) s)
-    unfolding fire
-    node-waits e =
-        let q : effectAt (netOf g) i s ≡ none = sym F ∙ rw e in
-        (sym (ap (λ (o : Option Effect). isReady (after (netOf g) i s o)) q), sym (ap (λ (o : Option Effect). orElse (after (netOf g) i s o) s) q))
-
-    pub fires-ready : (a : Act) → f ≡ Fires a → true ≡ isReady (fire (netOf g) i s)
-    unfolding fire
-    fires-ready a e =
-        let q : effectAt (netOf g) i s ≡ some (effectOf a) = sym F ∙ rw e in
-        sym (ap (λ (o : Option Effect). isReady (after (netOf g) i s o)) q)
-
     module _ (a : Act) (e : f ≡ Fires a) where
       fires : effectAt (netOf g) i s ≡ some (effectOf a)
       fires = sym F ∙ rw e

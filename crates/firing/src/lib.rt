@@ -196,10 +196,11 @@ pub fn see(state: &[u32], row: Row) -> step::Seen
 }
 
 // What the node would do now, and its record after that. The record is taken out of the state and lent to the firing, which changes it in place.
-fn look(graph: &[u32], state: &[u32], row: Row, i: usize) -> lent::After
-    requires { ⌜ Placed (now graph) i (length (now state)) × Reads (now graph) i row ⌝ }
+fn look(graph: &[u32], state: &[u32], i: usize) -> lent::After
+    requires { ⌜ Placed (now graph) i (length (now state)) ⌝ }
     ensures effect { λ r. ⌜ (shown (r .firing) ≡ effectAt (netOf (now (graph .entry))) i (now (state .entry))) × (r .own ≡ leftBy (effectAt (netOf (now (graph .entry))) i (now (state .entry))) (recordAt (wireCount (now (graph .entry))) (now (state .entry)) i)) ⌝ }
 {
+    let row = row_of(graph, i);
     let wires = graph::wide(graph[1]);
     let seen = see(state, row);
     let own = record_at(state, wires, i);
@@ -277,8 +278,7 @@ pub fn node_ready(graph: &[u32], state: &[u32], i: usize) -> bool
     requires { ⌜ Placed (now graph) i (length (now state)) ⌝ }
     ensures ready { λ r. ⌜ r ≡ isReady (fire (netOf (now (graph .entry))) i (now (state .entry))) ⌝ }
 {
-    let row = row_of(graph, i);
-    let looked = look(graph, state, row, i);
+    let looked = look(graph, state, i);
     let firing = looked.firing;
     match firing {
         step::Firing::NotReady => false,
@@ -291,14 +291,14 @@ pub fn fire_node(graph: &[u32], state: &mut [u32], i: usize) -> bool
     requires { ⌜ Placed (now graph) i (length (now state)) ⌝ }
     ensures fired { λ r. ⌜ (r ≡ isReady (fire (netOf (now (graph .entry))) i (now (state .entry)))) × (now (state .exit) ≡ orElse (fire (netOf (now (graph .entry))) i (now (state .entry))) (now (state .entry))) ⌝ }
 {
-    let row = row_of(graph, i);
-    let wires = graph::wide(graph[1]);
-    let looked = look(graph, state, row, i);
+    let looked = look(graph, state, i);
     let firing = looked.firing;
     let left = looked.own;
     match firing {
         step::Firing::NotReady => false,
         step::Firing::Fires(done) => {
+            let row = row_of(graph, i);
+            let wires = graph::wide(graph[1]);
             act(
                 state,
                 done,
