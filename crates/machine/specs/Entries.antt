@@ -8,7 +8,7 @@
 --   FireAnswer, LoadAnswer            what fire and load promise
 --   Fit, Given                        what the inner functions rely on
 --
--- 'It leaves every lent word as it was': each of the states is the lent one where its number is not 0. 'Its row is 0 for 11 to 18', so the entries of
+-- 'It leaves every lent word as it was': each of the states is the lent one where its number is not 0. Of a refusal 'its row is 0 for 11 to 18', so the entries of
 -- graphs answer a number alone, and say no row.
 -- Assumes nothing.
 use Prim.Native.Nat.{ℕ}
