@@ -138,7 +138,7 @@ fn act(
     keep(state, wires, i, left);
 }
 
-// A node's row, read once: the numbers of its wires, and how many places its kind has.
+// A node's row: the numbers of its wires, and how many places its kind has.
 pub struct Row {
     pub kind: u32,
     pub code: u32,

@@ -91,7 +91,7 @@ pub const UNCLOSED: u32 = 1;
 
 pub const OUTLESS: u32 = 2;
 
-// What a word of a row is. The number of a code is CODES and how many codes there are.
+// What a word of a row is: unused, any value, an operand that names a word or a flag, or a code, whose number is CODES and how many codes there are.
 const UNUSED: u32 = 0;
 
 const ANY: u32 = 1;
