@@ -26,10 +26,10 @@ countAnswer t =
     cond (eqb (tableRefusal t .number) 0) all (counts 0 0 0 0)
 
 -- the counts are in their limits
-unfoldable pub inLimits : Counts → Bool
-inLimits c = leb (c .nodes) 4096 && (leb (c .wires) 8192 && (leb (c .starts) 512 && leb (c .results) 512))
+unfoldable pub countsFit : Counts → Bool
+countsFit c = leb (c .nodes) 4096 && (leb (c .wires) 8192 && (leb (c .starts) 512 && leb (c .results) 512))
 
 -- THERE IS ROOM EXACTLY IF THE COUNTS ARE IN THEIR LIMITS
-pub room-by-counts : (t : List ℕ) → inLimits t ≡ inLimits (counts (nodeTotal t) (wireTotal t) (startTotal t) (resultTotal t))
-unfolding inLimits inLimits
+pub room-by-counts : (t : List ℕ) → inLimits t ≡ countsFit (counts (nodeTotal t) (wireTotal t) (startTotal t) (resultTotal t))
+unfolding inLimits countsFit
 room-by-counts t = refl
