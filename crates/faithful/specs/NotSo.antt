@@ -1,9 +1,13 @@
--- NOT SO: two sentences on zero steps that are stronger than what holds, each with a table that refutes it.
+-- NOT SO: three sentences on zero steps that are stronger than what holds, each with a table that refutes it.
 --
 -- It is not so that the node named is always the STREAM of the loop at whose FOR row the reading meets the zero step. The graph does not wait for
 -- the reading: a loop around it may have gone on to its next turn and met a zero step further up.
 --     indexSteps, index-steps-is-checked, index-steps-at-row-3     the reading meets the zero step at row 3
 --     the-loop-at-row-2-is-named                                   every order that rests names the STREAM of row 2; index-steps-rests: there is one
+--
+-- Nor that the node named is of no loop that the reading has left: inside a loop, one that was left may be met again.
+--     leftLoop, left-loop-is-checked, left-loop-at-row-5           the reading leaves the loop at row 3 and meets the zero step at row 5
+--     the-left-loop-is-named                                       every order that rests names the STREAM of row 3; left-loop-rests: there is one
 --
 -- Nor that every order rests where the reading meets a zero step. A loop further down that takes nothing from it may go on for ever.
 --     besideEndless, beside-endless-is-checked, beside-endless-at-row-2     the reading meets the zero step at row 2
@@ -42,6 +46,21 @@ use Rattle.faithful.specs.NotIdle.{check-computes, reading-computes, che
 run-computes : ℕ
 unfolding loaded startWord total joined everyFrom times nodeAt rowAt Kinds.kindOf fire fires Machines.step turn follow sweepFrom sweeps finish run anyReady complete resultsFull othersEmpty phasesZero zeroStepAt firstFrom outcome condition update operate
 run-computes = 0
+
+-- a run that ends in ZERO STEP rests, and then every order that rests names its node
+rests-naming : (t g : List ℕ) (a k : ℕ) → loweredWords t ≡ g → outcome g (runOf g [] (loaded g []) a .state) ≡ record { answer = ZERO-STEP; node = k }
+    → (order : List ℕ) × (u : List ℕ) × Fires (loweredWords t) order (loadedTable t []) u × AtRest (loweredWords t) u × (outcome (loweredWords t) u .node ≡ k)
+rests-naming t g a k e o =
+    subst (λ (z : List ℕ). (order : List ℕ) × (u : List ℕ) × Fires z order (loaded z []) u × AtRest z u × (outcome z u .node ≡ k)) (sym e)
+    (let m = run-is-an-order g [] (loaded g []) a (λ z. let y : ZERO-STEP ≡ SPENT = sym (ap (λ (x : Outcome). x .answer) o) ∙ z in omega arith) in
+    (madeBy g [] (loaded g []) a, runOf g [] (loaded g []) a .state, m .0, m .1, ap (λ (x : Outcome). x .node) o))
+
+all-name : (t : List ℕ) (k : ℕ) → checkAnswer t .number ≡ 0
+    → ((order : List ℕ) × (u : List ℕ) × Fires (loweredWords t) order (loadedTable t []) u × AtRest (loweredWords t) u × (outcome (loweredWords t) u .node ≡ k))
+    → (order u : List ℕ) → Fires (loweredWords t) order (loadedTable t []) u → AtRest (loweredWords t) u → outcome (loweredWords t) u .node ≡ k
+all-name t k c r order u f h =
+    let a = every-order-rests-alike (loweredWords t) (checked-table-lowers t c) (r .0) (loadedTable t []) (r .1) (r .2) (r .3) order u f in
+    ap (λ (x : List ℕ). outcome (loweredWords t) x .node) (a .same-words h) ∙ r .4
 
 -- ---- another loop is named
 -- CONST 1, FOR 0 0 0 -= <=, FOR 0 1 0 -= <=, FOR 0 2 0 += <, END, END, END, OUT 0: three loops, one in the other; the indexes of the outer two are 1
@@ -117,19 +136,99 @@ pub the-two-streams : (streamNode indexSteps 2 ≡ 5) × (streamNode indexSteps 
 unfolding lowering-computes
 the-two-streams = (refl, refl)
 
--- some order rests
 pub index-steps-rests : (order : List ℕ) × (u : List ℕ) × Fires (loweredWords indexSteps) order (loadedTable indexSteps []) u × AtRest (loweredWords indexSteps) u × (outcome (loweredWords indexSteps) u .node ≡ 5)
-index-steps-rests =
-    subst (λ (g : List ℕ). (order : List ℕ) × (u : List ℕ) × Fires g order (loaded g []) u × AtRest g u × (outcome g u .node ≡ 5)) (sym index-steps-lowers)
-    (let o = run-is-an-order indexGraph [] (loaded indexGraph []) 54 (λ z. let y : ZERO-STEP ≡ SPENT = sym (ap (λ (x : Outcome). x .answer) index-steps-ends) ∙ z in omega arith) in
-    (madeBy indexGraph [] (loaded indexGraph []) 54, runOf indexGraph [] (loaded indexGraph []) 54 .state, o .0, o .1, ap (λ (x : Outcome). x .node) index-steps-ends))
+index-steps-rests = rests-naming indexSteps indexGraph 54 5 index-steps-lowers index-steps-ends
 
 pub the-loop-at-row-2-is-named : (order u : List ℕ) → Fires (loweredWords indexSteps) order (loadedTable indexSteps []) u → AtRest (loweredWords indexSteps) u
     → outcome (loweredWords indexSteps) u .node ≡ streamNode indexSteps 2
-the-loop-at-row-2-is-named order u f h =
-    let r = index-steps-rests in
-    let a = every-order-rests-alike (loweredWords indexSteps) (checked-table-lowers indexSteps index-steps-is-checked) (r .0) (loadedTable indexSteps []) (r .1) (r .2) (r .3) order u f in
-    ap (λ (x : List ℕ). outcome (loweredWords indexSteps) x .node) (a .same-words h) ∙ r .4 ∙ sym (the-two-streams .0)
+the-loop-at-row-2-is-named order u f h = all-name indexSteps 5 index-steps-is-checked index-steps-rests order u f h ∙ sym (the-two-streams .0)
+
+-- ---- a loop that the reading has left is named
+-- CONST 1, CONST 0, FOR 0 0 0 -= <=, FOR 1 2 0 += <, END, FOR 1 1 0 += <, END, END, OUT 0: two loops side by side in a third. In the outer loop's first turn
+-- the loop at row 3 has step 1 and is left; the one at row 5 has step 0, and there the reading stops. The machines of the other two go on: in the outer
+-- loop's second turn, its index 0, the loop at row 3 has step 0 too.
+
+abbrev pub leftLoop : List ℕ
+leftLoop = const 1 (const 0 (loop 0 0 0 1 1 (loop 1 2 0 0 0 (close (loop 1 1 0 0 0 (close (close (out 0))))))))
+
+left-loop-passes : tableRefusal leftLoop ≡ answer 0 0
+unfolding check-computes
+left-loop-passes = refl
+
+left-loop-has-room : inLimits leftLoop ≡ true
+unfolding inLimits lowering-computes
+left-loop-has-room = refl
+
+pub left-loop-is-checked : checkAnswer leftLoop .number ≡ 0
+unfolding checkAnswer refusedBy
+left-loop-is-checked = checked (size leftLoop) (tableRefusal leftLoop) (inLimits leftLoop) left-loop-passes left-loop-has-room
+
+-- one turn at row 3, and it is left before row 5
+pub left-loop-at-row-5 : Reads leftLoop [] (zeroStep 5 (opening 2 1 ∷ opening 3 1 ∷ []))
+unfolding reading-computes
+left-loop-at-row-5 = record { steps = 20; comes = refl }
+
+unfoldable leftGraph : List ℕ
+leftGraph =
+    36 ∷ 53 ∷ 2 ∷ 1 ∷
+    1 ∷ 1 ∷
+    1 ∷ 0 ∷
+    34 ∷
+    0 ∷ 6 ∷ 0 ∷ 23 ∷ 25 ∷ 27 ∷ 2 ∷
+    1 ∷ 0 ∷ 0 ∷ 2 ∷ 3 ∷ absent ∷ 4 ∷
+    7 ∷ 4 ∷ 0 ∷ 29 ∷ 31 ∷ absent ∷ 6 ∷
+    4 ∷ 0 ∷ 0 ∷ 37 ∷ 33 ∷ absent ∷ 7 ∷
+    3 ∷ 0 ∷ 0 ∷ 35 ∷ 7 ∷ absent ∷ 9 ∷
+    4 ∷ 0 ∷ 0 ∷ 38 ∷ 1 ∷ absent ∷ 10 ∷
+    3 ∷ 0 ∷ 0 ∷ 36 ∷ 10 ∷ absent ∷ 12 ∷
+    0 ∷ 0 ∷ 0 ∷ 45 ∷ 4 ∷ 39 ∷ 13 ∷
+    1 ∷ 0 ∷ 0 ∷ 13 ∷ 14 ∷ absent ∷ 15 ∷
+    7 ∷ 3 ∷ 0 ∷ 47 ∷ 41 ∷ absent ∷ 17 ∷
+    0 ∷ 0 ∷ 0 ∷ 49 ∷ 51 ∷ 43 ∷ 18 ∷
+    1 ∷ 0 ∷ 0 ∷ 18 ∷ 19 ∷ absent ∷ 20 ∷
+    7 ∷ 3 ∷ 0 ∷ 52 ∷ 44 ∷ absent ∷ 22 ∷
+    5 ∷ 0 ∷ 0 ∷ 0 ∷ absent ∷ absent ∷ 23 ∷
+    5 ∷ 0 ∷ 0 ∷ 24 ∷ absent ∷ absent ∷ 25 ∷
+    5 ∷ 0 ∷ 0 ∷ 26 ∷ absent ∷ absent ∷ 27 ∷
+    5 ∷ 0 ∷ 0 ∷ 28 ∷ absent ∷ absent ∷ 29 ∷
+    5 ∷ 0 ∷ 0 ∷ 30 ∷ absent ∷ absent ∷ 31 ∷
+    5 ∷ 0 ∷ 0 ∷ 32 ∷ absent ∷ absent ∷ 33 ∷
+    5 ∷ 0 ∷ 1 ∷ 5 ∷ absent ∷ absent ∷ 35 ∷
+    5 ∷ 0 ∷ 1 ∷ 6 ∷ absent ∷ absent ∷ 37 ∷
+    6 ∷ 0 ∷ 0 ∷ 8 ∷ absent ∷ absent ∷ absent ∷
+    5 ∷ 0 ∷ 0 ∷ 9 ∷ absent ∷ absent ∷ 39 ∷
+    5 ∷ 0 ∷ 0 ∷ 40 ∷ absent ∷ absent ∷ 41 ∷
+    5 ∷ 0 ∷ 0 ∷ 42 ∷ absent ∷ absent ∷ 43 ∷
+    6 ∷ 0 ∷ 0 ∷ 11 ∷ absent ∷ absent ∷ absent ∷
+    5 ∷ 0 ∷ 0 ∷ 12 ∷ absent ∷ absent ∷ 45 ∷
+    5 ∷ 0 ∷ 0 ∷ 46 ∷ absent ∷ absent ∷ 47 ∷
+    5 ∷ 0 ∷ 0 ∷ 48 ∷ absent ∷ absent ∷ 49 ∷
+    5 ∷ 0 ∷ 0 ∷ 50 ∷ absent ∷ absent ∷ 51 ∷
+    6 ∷ 0 ∷ 0 ∷ 15 ∷ absent ∷ absent ∷ absent ∷
+    6 ∷ 0 ∷ 1 ∷ 16 ∷ absent ∷ absent ∷ absent ∷
+    6 ∷ 0 ∷ 1 ∷ 17 ∷ absent ∷ absent ∷ absent ∷
+    6 ∷ 0 ∷ 0 ∷ 20 ∷ absent ∷ absent ∷ absent ∷
+    6 ∷ 0 ∷ 1 ∷ 21 ∷ absent ∷ absent ∷ absent ∷
+    6 ∷ 0 ∷ 1 ∷ 22 ∷ absent ∷ absent ∷ absent ∷ []
+
+left-loop-lowers : loweredWords leftLoop ≡ leftGraph
+unfolding lowering-computes leftGraph
+left-loop-lowers = refl
+
+left-loop-ends : outcome leftGraph (runOf leftGraph [] (loaded leftGraph []) 49 .state) ≡ record { answer = ZERO-STEP; node = 7 }
+unfolding leftGraph run-computes
+left-loop-ends = refl
+
+pub left-loop-rests : (order : List ℕ) × (u : List ℕ) × Fires (loweredWords leftLoop) order (loadedTable leftLoop []) u × AtRest (loweredWords leftLoop) u × (outcome (loweredWords leftLoop) u .node ≡ 7)
+left-loop-rests = rests-naming leftLoop leftGraph 49 7 left-loop-lowers left-loop-ends
+
+left-loop-stream : streamNode leftLoop 3 ≡ 7
+unfolding lowering-computes
+left-loop-stream = refl
+
+pub the-left-loop-is-named : (order u : List ℕ) → Fires (loweredWords leftLoop) order (loadedTable leftLoop []) u → AtRest (loweredWords leftLoop) u
+    → outcome (loweredWords leftLoop) u .node ≡ streamNode leftLoop 3
+the-left-loop-is-named order u f h = all-name leftLoop 7 left-loop-is-checked left-loop-rests order u f h ∙ sym left-loop-stream
 
 -- ---- no order rests
 -- CONST 0, CONST 1, FOR 0 0 0 += <, END, FOR 0 1 0 *= <=, END, OUT 0. The step at row 2 is 0; the index of the loop at row 4 stays 0.

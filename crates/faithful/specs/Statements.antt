@@ -6,7 +6,7 @@
 --   the-end-state                     so the end state, all its words, is `endState`
 --   every-run-is-complete             so every run with that allowance, whatever its list, answers COMPLETE in that state
 --   zero-step-is-named                where the reading meets a zero step, in every order that rests the STREAM of that loop waits with it; ZERO STEP is
---                                     answered with the lowest node that waits so, which is of no loop that the reading has left
+--                                     answered with the lowest node that waits so, which stands in no loop of the outermost body that the reading has left
 --   zero-step-is-never-complete       so every order that rests answers ZERO STEP
 --   no-run-completes-a-fault          so no run, whatever its list and allowance, answers COMPLETE there
 --   rest-bounds-the-reading           where an order rests after F firings, the reading comes to an outcome, within a number of steps that F fixes
@@ -117,7 +117,7 @@ pub record Faithful (t inputs words : List ℕ) (openings : List Opening) (F : �
 pub record FaultNamed (t : List ℕ) (L : ℕ) (u : List ℕ) (o : Run.Outcome) : Type 0 where
   -- that loop's STREAM waits with a zero step; o is ZERO STEP and names a STREAM that waits so, the lowest that does
   pub met : ZeroStepNamed (loweredWords t) u (streamNode t L) o
-  -- it is of no loop that the reading has left: not below the STREAM of any loop of the outermost body at row L or above
+  -- it stands in no loop of the outermost body that the reading has left: not below the STREAM of any at row L or above
   pub not-behind : (M : ℕ) → kindAt t M ≡ FOR → bodyOf t M ≡ size t → M ≤ L → streamNode t M ≤ o .node
   -- so where L stands in no other loop, its own STREAM is named
   pub own : bodyOf t L ≡ size t → o .node ≡ streamNode t L

@@ -6,7 +6,7 @@
 --   waiting, waitingAt        the same of a view; of what stands in a row, where a number that is no kind always waits
 --   waiting-is-not-ready      a node that waits is not ready
 --
--- The converse does not hold: a node may be found to be not ready only by the word that it would take.
+-- The converse does not hold: not every input and output is looked at, nor any word.
 -- Assumes nothing.
 use Prim.Native.Nat.{ℕ, zero, suc, _/_, _%_}
 use mathlib.Core.Path.{_≡_, refl, ap}

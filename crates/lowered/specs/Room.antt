@@ -1,8 +1,8 @@
 -- What the two entries answer: docs/RULES.md, section 'Refusal numbers', 10.
 --
---   inLimits               the four counts are in their limits
+--   inLimits              the four counts are in their limits
 --   checkAnswer           check_table: 1 to 9, then 10 by the counts alone
---   lowerAnswer           lower: 1 to 9, then 10 by the counts or the lent words; else the length
+--   lowerAnswer           lower: 1 to 9, then 10 by the counts or the lent words; else how many words were written
 --   lentAfter             the lent words after lower
 --
 -- Assumes nothing.

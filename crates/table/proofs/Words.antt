@@ -89,10 +89,10 @@ no-word kind (suc (suc (suc (suc (suc zero))))) n1 n2 n3 n4 n5 = absurd (n5 refl
 no-word kind (suc (suc (suc (suc (suc (suc k)))))) n1 n2 n3 n4 n5 = refl
 
 -- word k is told where it is no code, else what is told of the later ones
-pub code-told : (t : List ℕ) (r k u later : ℕ) {kind w x : ℕ} {b : Bool} → kind ≡ kindAt t r → fieldOf u ≡ fieldIn (fieldsOf kind) k → w ≡ word t r k
+pub one-told : (t : List ℕ) (r k u later : ℕ) {kind w x : ℕ} {b : Bool} → kind ≡ kindAt t r → fieldOf u ≡ fieldIn (fieldsOf kind) k → w ≡ word t r k
     → b ≡ allows (fieldOf u) w → x ≡ cond b later k → x ≡ cond (isCode t r k) later k
 unfolding fieldAt
-code-told t r k u later {kind} {w} ek eu ew eb ex =
+one-told t r k u later {kind} {w} ek eu ew eb ex =
     ex ∙ ap (λ (y : Bool). cond y later k)
     (eb ∙ ap (λ (y : Field). allows y w) (eu ∙ ap (λ (y : ℕ). fieldIn (fieldsOf y) k) ek) ∙ ap (allows (fieldAt (kindAt t r) k)) ew)
 

@@ -3,10 +3,11 @@
 -- `wantedSort`; `sortOf`.
 -- Assumes nothing.
 use Prim.Native.Nat.{ℕ, zero, suc, _+_, _*_, _/_, _≤_}
-use mathlib.Core.Bool.{Bool, true, cond}
+use mathlib.Core.Bool.{Bool, true, false, cond, _&&_, false≢true}
 use mathlib.Core.List.{List, [], _∷_}
 use mathlib.Core.Path.{_≡_, refl}
 use native.Mathlib.Omega.{arith}
+use borrow.Author.Tests.{leb-true}
 use lib.Dec.{eqb, leb, ltb}
 use lib.ListN.{getD, length}
 
@@ -170,19 +171,32 @@ at-most-five kind = go (fieldsOf kind)
     go : (u : Fields) → summed inUse u ≤ 5
     go u = let p = one (u .a) in let q = one (u .b) in let r = one (u .c) in let s = one (u .d) in let v = one (u .e) in omega arith
 
--- the table has no row with more operands
+-- What is asked of every row of the table is computed over the table; a number that is no kind has a row too.
+abbrev eachRow : (Fields → Bool) → List Fields → Bool
+eachRow P [] = true
+eachRow P (u ∷ us) = cond (P u) (eachRow P us) false
+
+both : (a b : Bool) → cond a b false ≡ true → (a ≡ true) × (b ≡ true)
+both true b h = (refl, h)
+both false b h = absurd (false≢true h)
+
+of-each : (P : Fields → Bool) (us : List Fields) (d : Fields) → eachRow P us ≡ true → P d ≡ true → (k : ℕ) → P (getD us k d) ≡ true
+of-each P [] d h e k = e
+of-each P (u ∷ us) d h e zero = both (P u) (eachRow P us) h .0
+of-each P (u ∷ us) d h e (suc k) = of-each P us d (both (P u) (eachRow P us) h .1) e k
+
+-- The words in use stand first, and the operands one behind the other, from the first on: so a count says which they are.
+abbrev pub inOrder : Fields → ℕ → Bool
+inOrder u k =
+    eqb (inUse (fieldIn u k)) (cond (leb k (summed inUse u)) 1 0)
+    && eqb (named (fieldIn u k)) (cond (ltb (coded (u .a)) k && leb k (coded (u .a) + summed named u)) 1 0)
+
+pub words-in-order : (kind : ℕ) → (inOrder (fieldsOf kind) 1 && (inOrder (fieldsOf kind) 2 && (inOrder (fieldsOf kind) 3 && (inOrder (fieldsOf kind) 4 && inOrder (fieldsOf kind) 5)))) ≡ true
+words-in-order = of-each (λ u. inOrder u 1 && (inOrder u 2 && (inOrder u 3 && (inOrder u 4 && inOrder u 5)))) rowKinds (fields spare spare spare spare spare) refl refl
+
 pub at-most-three : (kind : ℕ) → operandCount kind ≤ 3
 unfolding operandCount
-at-most-three zero = omega arith
-at-most-three (suc zero) = omega arith
-at-most-three (suc (suc zero)) = omega arith
-at-most-three (suc (suc (suc zero))) = omega arith
-at-most-three (suc (suc (suc (suc zero)))) = omega arith
-at-most-three (suc (suc (suc (suc (suc zero))))) = omega arith
-at-most-three (suc (suc (suc (suc (suc (suc zero)))))) = omega arith
-at-most-three (suc (suc (suc (suc (suc (suc (suc zero))))))) = omega arith
-at-most-three (suc (suc (suc (suc (suc (suc (suc (suc zero)))))))) = omega arith
-at-most-three (suc (suc (suc (suc (suc (suc (suc (suc (suc k))))))))) = omega arith
+at-most-three kind = leb-true (summed named (fieldsOf kind)) 3 (of-each (λ u. leb (summed named u) 3) rowKinds (fields spare spare spare spare spare) refl refl kind)
 
 pub first-is-a-or-b : (kind : ℕ) → (1 ≤ firstOperand kind) × (firstOperand kind ≤ 2)
 unfolding firstOperand

@@ -195,7 +195,7 @@ pub fn operand_count(kind: u32) -> u32
 }
 
 // The word in which the first of them stands.
-pub fn first_operand(kind: u32) -> u32
+fn first_operand(kind: u32) -> u32
     ensures { λ r. ⌜ (r ≡ firstOperand kind) × (1 ≤ r) × (r ≤ 2) ⌝ }
 {
     1 + coded(fields_of(kind).a)

@@ -1,5 +1,5 @@
 -- `table::code_word` meets its contract. From the last word back, each is told where it is no code. Assumes nothing.
-use Rattle.table.proofs.Words.{code-told, first-of-five}
+use Rattle.table.proofs.Words.{one-told, first-of-five}
 use Rattle.table.specs.Clauses.{codeWord}
 use Rattle.table.specs.Check.{isCode}
 use Rattle.table.specs.Rows.{Fields}
@@ -72,11 +72,11 @@ returns c = let s4 = c .before .before .before in
     let q = s0 .fields-of .ensures in
     let u = s0 .fields-of .result in
     first-of-five (isCode t r)
-    (code-told t r 5 (u .e) 0 k (ap (λ (x : Fields). x .e) q) (s1 .before .before .word-at .ensures) (s1 .before .allows .ensures) (s1 .told-word .ensures))
-    (code-told t r 4 (u .d) (s1 .told-word .result) k (ap (λ (x : Fields). x .d) q) (s2 .before .before .word-at2 .ensures) (s2 .before .allows2 .ensures) (s2 .told-word2 .ensures))
-    (code-told t r 3 (u .c) (s2 .told-word2 .result) k (ap (λ (x : Fields). x .c) q) (s3 .before .before .word-at3 .ensures) (s3 .before .allows3 .ensures) (s3 .told-word3 .ensures))
-    (code-told t r 2 (u .b) (s3 .told-word3 .result) k (ap (λ (x : Fields). x .b) q) (s4 .before .before .word-at4 .ensures) (s4 .before .allows4 .ensures) (s4 .told-word4 .ensures))
-    (code-told t r 1 (u .a) (s4 .told-word4 .result) k (ap (λ (x : Fields). x .a) q) (c .before .before .word-at5 .ensures) (c .before .allows5 .ensures) (c .told-word5 .ensures))
+    (one-told t r 5 (u .e) 0 k (ap (λ (x : Fields). x .e) q) (s1 .before .before .word-at .ensures) (s1 .before .allows .ensures) (s1 .told-word .ensures))
+    (one-told t r 4 (u .d) (s1 .told-word .result) k (ap (λ (x : Fields). x .d) q) (s2 .before .before .word-at2 .ensures) (s2 .before .allows2 .ensures) (s2 .told-word2 .ensures))
+    (one-told t r 3 (u .c) (s2 .told-word2 .result) k (ap (λ (x : Fields). x .c) q) (s3 .before .before .word-at3 .ensures) (s3 .before .allows3 .ensures) (s3 .told-word3 .ensures))
+    (one-told t r 2 (u .b) (s3 .told-word3 .result) k (ap (λ (x : Fields). x .b) q) (s4 .before .before .word-at4 .ensures) (s4 .before .allows4 .ensures) (s4 .told-word4 .ensures))
+    (one-told t r 1 (u .a) (s4 .told-word4 .result) k (ap (λ (x : Fields). x .a) q) (c .before .before .word-at5 .ensures) (c .before .allows5 .ensures) (c .told-word5 .ensures))
 
 pub code-word-spec : {M : Type 1} → statement M
 code-word-spec =
