@@ -4,7 +4,8 @@
   tests/model.py < calls            answers each line of the protocol of `rehearse calls`
   tests/model.py cases              prints the calls of crates/graph_cases/stdin
   tests/model.py lowering-cases     prints the calls of crates/lowering_cases/stdin
-  tests/model.py told               says of each call of the two what it shows, with the start of the answer
+  tests/model.py sheet-cases        prints the calls of crates/sheet_cases/stdin
+  tests/model.py told               says of each call of the three what it shows, with the start of the answer
   tests/model.py draw < words       lists and draws a graph, its tokens and names, as crates/graph_drawn does
   tests/model.py trace < words      runs a graph and tells each firing, as crates/graph_rehearsed does
   tests/model.py lower < table      the words of a table's graph, a line a row, as `rehearse lower` prints them
@@ -548,6 +549,101 @@ def reading(words, inputs, turns=1000):
     return out
 
 
+# Sheets. Whether a text can go on is asked of the text as a whole, line by line, and not of a reader that goes through it: the offset of a refusal is
+# the length of the longest first part that can.
+
+NAMES = 'input const op pick for arg next end out'.split()
+USED = [0, 1, 3, 3, 5, 1, 1, 0, 1]
+
+
+def row_lines(r, row):
+    return [f'row={r}', f'kind={NAMES[row[0]]}'] + [f'{key}={x}' for key, x in zip('abcde', row[1:1 + USED[row[0]]])]
+
+
+def sheet(words):
+    rows = [words[i:i + 6] for i in range(0, len(words), 6)]
+    lines = [f'rows={len(rows)}'] + [x for r, row in enumerate(rows) for x in row_lines(r, row)]
+    return ''.join(x + '\n' for x in lines).encode()
+
+
+def due(rows, number, last):
+    """What the next line of a sheet is, in a sheet of so many rows (None before they are told), of which so many have begun, behind these whole lines of the last one:
+    its key, and its value: a set of texts, or the least and the largest number; None behind the last line."""
+    if rows is None: return 'rows', (1, 512)
+    if len(last) == 1: return 'kind', set(NAMES)
+    k = len(last) - 2
+    if last and k < USED[NAMES.index(last[1][5:])]: return 'abcde'[k], (0, X)
+    return ('row', {str(number)}) if number < rows else None
+
+
+def begins(part, key, values):
+    """Whether a line of this key and one of these values begins so."""
+    head = key + '='
+    if len(part) <= len(head): return head.startswith(part)
+    if not part.startswith(head): return False
+    value = part[len(head):]
+    if isinstance(values, set): return any(v.startswith(value) for v in values)
+    low, high = values
+    return len(value) <= 10 and value.isdigit() and value.isascii() and (value == '0' or value[0] != '0') and low <= int(value) <= high
+
+
+def due_behind(text):
+    """The last line of a text, which has no end, and what is due there; or None where a line before it is not as it is due."""
+    *lines, rest = text.decode('latin-1').split('\n')
+    rows, number, last = None, 0, []
+    for line in lines:
+        what = due(rows, number, last)
+        if what is None: return None
+        key, values = what
+        if not line.startswith(key + '=') or not begins(line, key, values) or line == key + '=': return None
+        if isinstance(values, set) and line[len(key) + 1:] not in values: return None
+        if key == 'rows': rows = int(line[5:])
+        elif key == 'row': number, last = number + 1, [line]
+        else: last.append(line)
+    return rest, due(rows, number, last)
+
+
+def goes_on(text):
+    """Whether some sheet begins so."""
+    found = due_behind(text)
+    if found is None: return False
+    rest, what = found
+    return rest == '' if what is None else begins(rest, *what)
+
+
+def read_sheet(lent, text):
+    text = bytes(text)
+    before = [7] * lent
+    low, high = 0, len(text)      # the first `low` bytes can go on, and each first part of what can go on can too
+    while low < high:
+        middle = (low + high + 1) // 2
+        if goes_on(text[:middle]): low = middle
+        else: high = middle - 1
+    if low < len(text) or due_behind(text) != ('', None): return 19, low, 0, before
+    words = []
+    for line in text.decode().split('\n')[1:-1]:
+        key, value = line.split('=')
+        if key == 'row': words += [0] * (-len(words) % 6)
+        elif key == 'kind': words.append(NAMES.index(value))
+        else: words.append(int(value))
+    words += [0] * (-len(words) % 6)
+    if lent < len(words): return 10, len(words) // 6, 0, before
+    return 0, 0, len(words), words + before[len(words):]
+
+
+def write_sheet(lent, words):
+    before = [7] * lent
+    n = len(words) // 6
+    if len(words) % 6 or not 1 <= n <= 512: return 1, 0, 0, before
+    for r in range(n):
+        row = words[6 * r:6 * r + 6]
+        if row[0] > 8: return 2, r, 0, before
+        if any(row[1 + USED[row[0]]:]): return 3, r, 0, before
+    text = list(sheet(words))
+    if lent < len(text): return 10, n, 0, before
+    return 0, 0, len(text), text + before[len(text):]
+
+
 # The line protocol.
 
 def numbers(text): return [int(x) for x in text.split()]
@@ -562,9 +658,9 @@ def answer(line):
     if name == 'check_graph': return str(check_graph(parts[0]))
     if name == 'check_table': return ' '.join(map(str, check_table(parts[0])))
     head = parts[0][0]
-    if name == 'lower':
-        *three, g = lower(head, parts[1])
-        return listed(three, g)
+    if name in ('lower', 'read_sheet', 'write_sheet'):
+        *three, lent = {'lower': lower, 'read_sheet': read_sheet, 'write_sheet': write_sheet}[name](head, parts[1])
+        return listed(three, lent)
     if name == 'load': return listed(*(lambda no, s: ([no], s))(*load(head, parts[1], parts[2])))
     if name == 'fire':
         no, fired, s = fire(head, parts[1], parts[2])
@@ -729,6 +825,80 @@ def lowering_cases():
         yield what, call('run', 1000000, g, load(sizes(g), g, inputs)[1], [])
 
 
+ALL_KINDS = table([INPUT], [CONST, 7], [ROW_OP, 1, 0, 1], [ROW_PICK, 2, 0, 1], [FOR, 1, 2, 0, 5, 4], [ARG, 3], [NEXT, 10], [END], [OUT, X])
+
+
+def sheet_cases():
+    """(what it shows, the call), in order: each way in which a line can break, at each key, and the ends of the limits."""
+    read = lambda what, text, lent=6: (what, call('read_sheet', lent, list(text)))
+    write = lambda what, lent, words: (what, call('write_sheet', lent, words))
+    passed = table([INPUT], [OUT, 0])
+    yield write('INPUT; OUT 0 is written, lent exactly', len(sheet(passed)), passed)
+    yield write('two bytes more than enough are lent: they stay', len(sheet(passed)) + 2, passed)
+    yield write('10: one byte too few is lent, and all stay', len(sheet(passed)) - 1, passed)
+    yield write('10: no byte is lent', 0, passed)
+    yield write('every kind', len(sheet(ALL_KINDS)), ALL_KINDS)
+    yield write('1: no words', 3, [])
+    yield write('1: a word short', 3, passed[:-1])
+    yield write('1: 513 rows', 3, table(*[[END]] * 513))
+    yield write('2: a kind of 9', 3, table([INPUT], [9]))
+    yield write('3: INPUT with a word', 3, table([INPUT], [INPUT, 0, 0, 0, 0, 1]))
+    yield write('2 in a row is looked at before 3, and a row before the next', 3, table([END], [9, 1], [END, 1]))
+    yield write('what 4 to 9 refuse has a sheet', 44, table([ROW_OP, 99, X, 4]))
+    yield read('INPUT; OUT 0 is read, lent exactly', sheet(passed), 12)
+    yield read('three words more than enough are lent: they stay', sheet(passed), 15)
+    yield read('10: one word too few is lent, and all stay', sheet(passed), 11)
+    yield read('every kind', sheet(ALL_KINDS), 54)
+    yield read('19: no bytes', b'')
+    yield read('19 before 10: a byte more than the sheet, no word lent', sheet(passed) + b'\n', 0)
+    for n in (0, 1, 9, 10, 99, 100, 499, 500, 511, 512, 513, 520, 600, 1000, 4294967297): yield read(f'rows={n}, and the text ends', b'rows=%d\n' % n)
+    for r in (0, 2, 3, 10, 11): yield read(f'row={r} where row 1 is due', b'rows=3\nrow=0\nkind=end\nrow=%d\n' % r)
+    ten = b''.join(b'row=%d\nkind=end\n' % r for r in range(10))
+    for r in (1, 9, 10, 11, 100): yield read(f'row={r} where row 10 is due', b'rows=11\n' + ten + b'row=%d\nkind=end\n' % r, 66)
+    for k, name in enumerate(NAMES):
+        text = b'rows=1\nrow=0\nkind=%s\n' % name.encode()
+        yield read(f'{name}: the name, and the next line is due', text)
+        yield read(f'{name}: a letter more', text[:-1] + text[-2:])
+        yield read(f'{name}: a letter less', text[:-2] + b'\n')
+        yield read(f'{name}: in capitals', text[:-len(name) - 1] + name.upper().encode() + b'\n')
+    one = table([FOR, 0, 10, 429496729, X - 1, X])
+    whole = sheet(one).decode().split('\n')[:-1]
+    yield read('the words of a FOR at their limits', sheet(one))
+    for i, line in enumerate(whole):
+        key, value = line.split('=')
+        put = lambda *new: ''.join(x + '\n' for x in whole[:i] + list(new) + whole[i + 1:]).encode()
+        yield read(f'{key}: the line is missing', put())
+        yield read(f'{key}: the line stands twice', put(line, line))
+        yield read(f'{key}: an empty line before it', put('', line))
+        yield read(f'{key}: the key is another', put('f' + line[1:]))
+        yield read(f'{key}: the key is longer', put(key + 's=' + value))
+        yield read(f'{key}: a capital', put(line.capitalize()))
+        yield read(f'{key}: no equals sign', put(key + value))
+        yield read(f'{key}: two equals signs', put(key + '==' + value))
+        yield read(f'{key}: no value', put(key + '='))
+        yield read(f'{key}: a space before the key', put(' ' + line))
+        yield read(f'{key}: a space before the value', put(key + '= ' + value))
+        yield read(f'{key}: a space behind the value', put(line + ' '))
+        yield read(f'{key}: a carriage return', put(line + '\r'))
+        yield read(f'{key}: a comment', put(line + '#'))
+        yield read(f'{key}: a byte 0', put(line + '\0'))
+        yield read(f'{key}: a sign', put(key + '=+' + value))
+        yield read(f'{key}: a leading zero', put(key + '=0' + value))
+        yield read(f'{key}: a digit more', put(line + '0'))
+        yield read(f'{key}: the largest word and one', put(key + '=4294967296'))
+        yield read(f'{key}: eleven digits', put(key + '=10000000000'))
+        yield read(f'{key}: the byte before the digits', put(key + '=/'))
+        yield read(f'{key}: the byte behind the digits', put(key + '=1:'))
+        yield read(f'{key}: a byte over 127', put(key + '=').replace(f'{key}=\n'.encode(), f'{key}='.encode() + b'\xff\n'))
+        yield read(f'{key}: the text ends in the key', ''.join(x + '\n' for x in whole[:i]).encode() + key[:1].encode())
+        yield read(f'{key}: the text ends before the value', ''.join(x + '\n' for x in whole[:i]).encode() + (key + '=').encode())
+        yield read(f'{key}: the text ends before the line feed', ''.join(x + '\n' for x in whole[:i]).encode() + line.encode())
+        yield read(f'{key}: the text ends behind the line', ''.join(x + '\n' for x in whole[:i + 1]).encode())
+    yield read('f: a sixth word', sheet(one) + b'f=0\n')
+    yield read('a row more than rows= says', sheet(one) + b'row=1\n')
+    yield read('a carriage return behind the sheet', sheet(one) + b'\r')
+
+
 def name_of(node):
     """A node's kind, with what its code says."""
     name = 'STREAM GATE CARRY INVARIANT SPLIT FORK DRAIN OP PICK'.split()[node.kind]
@@ -852,8 +1022,10 @@ if __name__ == '__main__':
         for _, line in cases(): print(line)
     elif what == ['lowering-cases']:
         for _, line in lowering_cases(): print(line)
+    elif what == ['sheet-cases']:
+        for _, line in sheet_cases(): print(line)
     elif what == ['told']:
-        for part in (cases(), lowering_cases()):
+        for part in (cases(), lowering_cases(), sheet_cases()):
             for k, (shows, line) in enumerate(part): print(f'{k + 1}. {shows}: `{answer(line).partition(" ;")[0]}`')
             print()
     elif what == ['draw']:

@@ -29,7 +29,11 @@ const FIRE: u32 = 5;
 
 const RUN: u32 = 6;
 
-// What lent words hold before a call.
+const READ_SHEET: u32 = 7;
+
+const WRITE_SHEET: u32 = 8;
+
+// What lent words and bytes hold before a call.
 const BEFORE: u32 = 7;
 
 // Where the name that a line starts with ends.
@@ -66,6 +70,12 @@ fn call_of(name: &[u8]) -> u32 {
     if text::same(name, b"run") {
         return RUN;
     }
+    if text::same(name, b"read_sheet") {
+        return READ_SHEET;
+    }
+    if text::same(name, b"write_sheet") {
+        return WRITE_SHEET;
+    }
     0
 }
 
@@ -73,6 +83,8 @@ fn call_of(name: &[u8]) -> u32 {
 fn lists_of(call: u32) -> usize {
     match call {
         LOWER => 1,
+        READ_SHEET => 1,
+        WRITE_SHEET => 1,
         LOAD => 2,
         FIRE => 2,
         RUN => 3,
@@ -85,7 +97,7 @@ fn reason(problem: u32, out: &mut [u8], at: usize) -> usize
     ensures { λ r. ⌜ r ≤ length (now (out .entry)) ⌝ }
 {
     let reasons =
-        b"none;a letter that is no digit, space or semicolon;a number that is too large;more words in a list than there is room for;one number belongs before the first semicolon;no call has this name;this call has another number of semicolons;more words are to be lent than there are;the line is too long";
+        b"none;a letter that is no digit, space or semicolon;a number that is too large;more words in a list than there is room for;one number belongs before the first semicolon;no call has this name;this call has another number of semicolons;more words or bytes are to be lent than there are;the line is too long";
     text::put(out, at, text::part(reasons, problem as usize))
 }
 
@@ -110,6 +122,32 @@ fn say_row(number: u32, row: u32, out: &mut [u8]) -> usize
 {
     let n = say_number(number, out);
     text::put_next(out, n, row as u64)
+}
+
+// A refusal number, its row or offset, and how much was written.
+fn say_three(number: u32, place: u64, written: usize, out: &mut [u8]) -> usize
+    ensures { λ r. ⌜ r ≤ length (now (out .entry)) ⌝ }
+{
+    let a = say_number(number, out);
+    let b = text::put_next(out, a, place);
+    text::put_next(out, b, written as u64)
+}
+
+fn say_bytes(out: &mut [u8], at: usize, bytes: &[u8]) -> usize
+    requires { ⌜ at ≤ length (now out) ⌝ }
+    ensures { λ r. ⌜ r ≤ length (now (out .entry)) ⌝ }
+{
+    let mut n = text::put(out, at, b" ;");
+    let mut i: usize = 0;
+    while i < bytes.len() {
+        n = text::put_next(out, n, wide(bytes[i]));
+        i += 1;
+    }
+    n
+}
+
+fn wide(b: u8) -> u64 {
+    b as u64
 }
 
 fn say_words(out: &mut [u8], at: usize, words: &[u32]) -> usize
@@ -146,9 +184,34 @@ fn call_lower(table: &[u32], graph: &mut [u32], out: &mut [u8]) -> usize
 {
     fill(graph);
     let lowered = lowering::lower(table, graph);
-    let a = say_row(lowered.number, lowered.row, out);
-    let b = text::put_next(out, a, lowered.written as u64);
-    say_words(out, b, graph)
+    let n = say_three(lowered.number, lowered.row as u64, lowered.written, out);
+    say_words(out, n, graph)
+}
+
+fn call_read_sheet(sheet: &[u8], rows: &mut [u32], out: &mut [u8]) -> usize
+    ensures { λ r. ⌜ r ≤ length (now (out .entry)) ⌝ }
+{
+    fill(rows);
+    let read = sheet_read::read_sheet(sheet, rows);
+    let n = say_three(read.number, read.place as u64, read.written, out);
+    say_words(out, n, rows)
+}
+
+fn fill_bytes(lent: &mut [u8]) {
+    let mut i: usize = 0;
+    while i < lent.len() {
+        lent[i] = BEFORE as u8;
+        i += 1;
+    }
+}
+
+fn call_write_sheet(table: &[u32], sheet: &mut [u8], out: &mut [u8]) -> usize
+    ensures { λ r. ⌜ r ≤ length (now (out .entry)) ⌝ }
+{
+    fill_bytes(sheet);
+    let written = sheet_written::write_sheet(table, sheet);
+    let n = say_three(written.number, written.row as u64, written.written, out);
+    say_bytes(out, n, sheet)
 }
 
 fn call_load(graph: &[u32], inputs: &[u32], state: &mut [u32], out: &mut [u8]) -> usize
@@ -255,6 +318,72 @@ fn lower_line(rest: &[u8], table: &mut [u32], graph: &mut [u32], out: &mut [u8])
     call_lower(&table[..n], &mut graph[..k], out)
 }
 
+// Words as bytes; whether each is one and there is room.
+fn narrow(words: &[u32], bytes: &mut [u8]) -> bool {
+    let mut i: usize = 0;
+    while i < words.len() {
+        if bytes.len() <= i {
+            return false;
+        }
+        let w = words[i];
+        if 255 < w {
+            return false;
+        }
+        bytes[i] = w as u8;
+        i += 1;
+    }
+    true
+}
+
+// A list has at most 65,536 words, so there is room for its bytes, and what is not narrow is a number that is too large.
+fn read_sheet_bytes(list: &[u32], rows: &mut [u32], out: &mut [u8]) -> usize
+    ensures { λ r. ⌜ r ≤ length (now (out .entry)) ⌝ }
+{
+    let mut bytes = [0u8; 65536];
+    let n = list.len();
+    if narrow(list, &mut bytes) {
+        if n <= 65536 {
+            return call_read_sheet(&bytes[..n], rows, out);
+        }
+    }
+    error(text::LARGE, out)
+}
+
+fn read_sheet_line(rest: &[u8], list: &mut [u32], rows: &mut [u32], out: &mut [u8]) -> usize
+    ensures { λ r. ⌜ r ≤ length (now (out .entry)) ⌝ }
+{
+    let lent = text::number(text::part(rest, 0));
+    let t = text::words(text::part(rest, 1), list);
+    let problem = first_of(lent.problem, t.problem);
+    if problem != 0 {
+        return error(problem, out);
+    }
+    let k = lent.value as usize;
+    if rows.len() < k {
+        return error(LENT, out);
+    }
+    let n = t.count;
+    read_sheet_bytes(&list[..n], &mut rows[..k], out)
+}
+
+fn write_sheet_line(rest: &[u8], table: &mut [u32], out: &mut [u8]) -> usize
+    ensures { λ r. ⌜ r ≤ length (now (out .entry)) ⌝ }
+{
+    let lent = text::number(text::part(rest, 0));
+    let t = text::words(text::part(rest, 1), table);
+    let problem = first_of(lent.problem, t.problem);
+    if problem != 0 {
+        return error(problem, out);
+    }
+    let k = lent.value as usize;
+    let mut sheet = [0u8; 65536];
+    if sheet.len() < k {
+        return error(LENT, out);
+    }
+    let n = t.count;
+    call_write_sheet(&table[..n], &mut sheet[..k], out)
+}
+
 fn check_graph_line(rest: &[u8], graph: &mut [u32], out: &mut [u8]) -> usize
     ensures { λ r. ⌜ r ≤ length (now (out .entry)) ⌝ }
 {
@@ -354,6 +483,8 @@ fn line_of(
         CHECK_GRAPH => check_graph_line(rest, first, out),
         LOAD => load_line(rest, first, third, second, out),
         FIRE => fire_line(rest, first, second, out),
+        READ_SHEET => read_sheet_line(rest, first, second, out),
+        WRITE_SHEET => write_sheet_line(rest, first, out),
         _ => run_line(rest, first, second, third, out),
     }
 }

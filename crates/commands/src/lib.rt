@@ -1,12 +1,13 @@
 // The commands of rehearse on argument texts and two descriptors: answers go to `out`, refusals and complaints to `err`.
 // The last line of `out` is `refused` where a rule refused, `error` where a command, an argument or a file was wrong, and neither where all went well.
-ghost use Prim.Native.Nat.{_≤_};
+ghost use Prim.Native.Nat.{_+_, _*_, _≤_, _<_};
 ghost use lib.ListN.{length};
 use arguments::Asked;
 use files::DONE;
 use files::ERROR;
 use files::Got;
 use files::REFUSED;
+use table::Clause;
 use traced::How;
 
 // The commands on a table.
@@ -15,9 +16,17 @@ const CHECK: u32 = 1;
 
 const LOWER: u32 = 2;
 
-const RUN: u32 = 3;
+const SHEET: u32 = 3;
 
-const DRAW: u32 = 4;
+const TABLE: u32 = 4;
+
+const RUN: u32 = 5;
+
+const DRAW: u32 = 6;
+
+const LENGTH: u32 = 1;
+
+const SPARE: u32 = 3;
 
 const ROOM: u32 = 10;
 
@@ -39,11 +48,13 @@ fn usage(to: i32) -> bool {
 rehearse run TABLE INPUT.. [OPTION..]     runs a table on its input words
 rehearse lower TABLE                      the words of a table's graph, with what they say as comments
 rehearse draw TABLE [INPUT.. OPTION..]    a table's graph as Graphviz text; with inputs, the tokens after a run
+rehearse sheet TABLE                      a table as a sheet that people can read
+rehearse table SHEET                      a sheet's words, with the kind of each row as a comment
 rehearse calls                            answers calls, one a line, from standard input
 rehearse --help                           this
 Options of run, and of draw but for --trace: --order FILE, node numbers to go through once before the sweeps; --reverse, all nodes from the last to 0 so;
 --allowance N, the most firings, 1,000,000,000 where it is not given; --trace, a line for each firing.
-A table is a file of decimal words, six to a row; # starts a comment.
+A table is a file of decimal words, six to a row; # starts a comment. A sheet, which starts with rows=, does for a table everywhere.
 ",
     )
 }
@@ -87,6 +98,118 @@ fn check(job: Job, path: &[u8], text: &[u8], table: &[u32]) -> u32 {
     files::answer(job.out, job.err, &out[..n])
 }
 
+// Sheets.
+
+// The clause by which 1, 2 or 3 refuse a table; 4 to 9 do not look at it.
+fn sheet_clause(table: &[u32], number: u32, row: u32) -> Clause {
+    if number == LENGTH {
+        return table::tell_rows(table);
+    }
+    let mut word: u32 = 0;
+    if number == SPARE {
+        word = spare_of(table, row);
+    }
+    Clause {
+        number,
+        row,
+        fault: 0,
+        word,
+        body: 0,
+        args: 0,
+        nexts: 0,
+    }
+}
+
+fn spare_of(table: &[u32], row: u32) -> u32 {
+    if row < 512 {
+        if (row as usize) < table.len() / 6 {
+            return table::spare_word(table, row);
+        }
+    }
+    0
+}
+
+fn refuse_sheet(err: i32, path: &[u8], text: &[u8], table: &[u32], number: u32, row: u32) -> u32 {
+    files::note_odd(err, path, text, ANY_LINE);
+    let mut out = io::large_buffer();
+    let n = refused::put_refusal(&mut out, path, table, sheet_clause(table, number, row));
+    io::write_all(err, &out[..n]);
+    REFUSED
+}
+
+fn wide(x: u32) -> u64 {
+    x as u64
+}
+
+// A row's words, and its number and kind as a comment.
+fn put_row(out: &mut [u8], at: usize, table: &[u32], r: usize) -> usize
+    requires { ⌜ (at ≤ length (now out)) × (6 * r + 6 ≤ length (now table)) × (r < 512) ⌝ }
+    ensures { λ n. ⌜ n ≤ length (now (out .entry)) ⌝ }
+{
+    let from = 6 * r;
+    let a = text::put_number(out, at, wide(table[from]));
+    let b = text::put_words(out, a, &table[from + 1..from + 6]);
+    let c = text::put(out, b, b" # row");
+    let d = text::put_next(out, c, r as u64);
+    let e = text::put(out, d, b", ");
+    let f = told::put_kind(out, e, table[from]);
+    text::put_letter(out, f, b'\n')
+}
+
+fn put_table(out: &mut [u8], table: &[u32]) -> usize
+    ensures { λ n. ⌜ n ≤ length (now (out .entry)) ⌝ }
+{
+    let rows = least(table.len() / 6, 512);
+    let mut n: usize = 0;
+    let mut r: usize = 0;
+    while r < rows {
+        n = put_row(out, n, table, r);
+        r += 1;
+    }
+    n
+}
+
+fn least(a: usize, b: usize) -> usize
+    ensures { λ r. ⌜ (r ≤ a) × (r ≤ b) ⌝ }
+{
+    if a < b {
+        return a;
+    }
+    b
+}
+
+// The commands that write the table itself.
+fn is_written(command: u32) -> bool {
+    match command {
+        SHEET => true,
+        TABLE => true,
+        _ => false,
+    }
+}
+
+// Writes a table that has a sheet: the sheet, or its words. A refusal leaves the text as it was, so that it is at hand for the note.
+fn write(job: Job, path: &[u8], letters: usize, table: &[u32], text: &mut [u8]) -> u32
+    requires { ⌜ letters ≤ length (now text) ⌝ }
+{
+    let written = sheet_written::write_sheet(table, text);
+    if written.number != 0 {
+        return refuse_sheet(
+            job.err,
+            path,
+            &text[..letters],
+            table,
+            written.number,
+            written.row,
+        );
+    }
+    if job.command == TABLE {
+        let n = put_table(text, table);
+        return files::answer(job.out, job.err, &text[..n]);
+    }
+    let n = least(written.written, text.len());
+    files::answer(job.out, job.err, &text[..n])
+}
+
 // Graphs.
 
 fn list(job: Job, graph: &[u32], nodes: &[u32], wires: &[u32], out: &mut [u8]) -> u32 {
@@ -114,7 +237,7 @@ fn whole(count: usize) -> Got
     ensures { λ r. ⌜ r .count ≤ count ⌝ }
 {
     Got {
-        fine: true,
+        status: DONE,
         letters: 0,
         count,
     }
@@ -244,11 +367,11 @@ fn run(
 ) -> u32 {
     let mut order = [0u32; 65536];
     let got = order_of(job, line, graph, text, &mut order);
-    if got.fine {
+    if got.status == DONE {
         let n = got.count;
         return rehearse(job, inputs, graph, nodes, wires, &order[..n], text);
     }
-    ERROR
+    got.status
 }
 
 fn on_named(
@@ -331,6 +454,9 @@ fn on_table(
     if job.command == CHECK {
         return check(job, path, &text[..letters], table);
     }
+    if is_written(job.command) {
+        return write(job, path, letters, table, text);
+    }
     let mut graph = [0u32; 30212];
     lower(job, inputs, line, path, letters, table, &mut graph, text)
 }
@@ -344,11 +470,11 @@ fn on_file(
     words: &mut [u32],
 ) -> u32 {
     let got = files::read_file(job.err, path, true, text, words);
-    if got.fine {
+    if got.status == DONE {
         let n = got.count;
         return on_table(job, inputs, line, path, got.letters, &words[..n], text);
     }
-    ERROR
+    got.status
 }
 
 // The memory that all commands on a table share.
@@ -423,6 +549,12 @@ fn command_of(name: &[u8]) -> u32 {
     }
     if text::same(name, b"lower") {
         return LOWER;
+    }
+    if text::same(name, b"sheet") {
+        return SHEET;
+    }
+    if text::same(name, b"table") {
+        return TABLE;
     }
     if text::same(name, b"run") {
         return RUN;

@@ -91,18 +91,18 @@ pub fn answer(out: i32, err: i32, text: &[u8]) -> u32 {
     written(io::write_all(out, text), err)
 }
 
-// Whether a file was read, its letters, and its words.
+// What became of a file, DONE where it was read; its letters, and its words.
 pub struct Got {
-    pub fine: bool,
+    pub status: u32,
     pub letters: usize,
     pub count: usize,
 }
 
-fn nothing_got() -> Got
+fn nothing_got(status: u32) -> Got
     ensures { λ r. ⌜ (r .count ≤ 0) × (r .letters ≤ 0) ⌝ }
 {
     Got {
-        fine: false,
+        status,
         letters: 0,
         count: 0,
     }
@@ -136,16 +136,52 @@ fn misread(err: i32, path: &[u8], text: &[u8], typed: typed::Typed, rows: bool) 
     complain(err, path, &what[..n]);
 }
 
+// A text that is no sheet.
+fn misprinted(err: i32, path: &[u8], text: &[u8], at: usize)
+    requires { ⌜ at ≤ length (now text) ⌝ }
+{
+    let mut what = io::large_buffer();
+    let n = sheet_told::put_refusal(&mut what, path, text, at);
+    io::write_all(err, &what[..n]);
+}
+
+// A sheet has at most 512 rows, so only TEXT refuses it where that many are lent.
+fn read_sheet(err: i32, path: &[u8], text: &[u8], words: &mut [u32]) -> Got
+    ensures { λ r. ⌜ (r .count ≤ length (now (words .entry))) × (r .letters ≤ length (now (text .entry))) ⌝ }
+{
+    let read = sheet_read::read_sheet(text, words);
+    if read.number != 0 {
+        if read.place <= text.len() {
+            misprinted(err, path, text, read.place);
+        }
+        return nothing_got(REFUSED);
+    }
+    let n = read.written;
+    if n <= words.len() {
+        return Got {
+            status: DONE,
+            letters: text.len(),
+            count: n,
+        };
+    }
+    nothing_got(REFUSED)
+}
+
 fn read_text(err: i32, path: &[u8], rows: bool, text: &[u8], words: &mut [u32]) -> Got
     ensures { λ r. ⌜ (r .count ≤ length (now (words .entry))) × (r .letters ≤ length (now (text .entry))) ⌝ }
 {
+    if rows {
+        if sheet_told::is_sheet(text) {
+            return read_sheet(err, path, text, words);
+        }
+    }
     let typed = typed::read(text, words);
     if typed.problem != 0 {
         misread(err, path, text, typed, rows);
-        return nothing_got();
+        return nothing_got(ERROR);
     }
     Got {
-        fine: true,
+        status: DONE,
         letters: text.len(),
         count: typed.count,
     }
@@ -173,7 +209,7 @@ fn read_opened(
     libc::close(fd);
     if more < 0 {
         fail(err, path, error);
-        return nothing_got();
+        return nothing_got(ERROR);
     }
     if 0 < more {
         complain(
@@ -181,19 +217,19 @@ fn read_opened(
             path,
             b"the file has more bytes than the 1,048,576 that there is room for",
         );
-        return nothing_got();
+        return nothing_got(ERROR);
     }
     read_text(err, path, rows, &text[..n], words)
 }
 
-// Reads a file's words. `rows` says that it is a table's, so that the place of what is wrong is told by row and word too.
+// Reads a file's words. `rows` says that it is a table's: it may be a sheet, and the place of what is wrong is told by row and word too.
 pub fn read_file(err: i32, path: &[u8], rows: bool, text: &mut [u8], words: &mut [u32]) -> Got
     ensures { λ r. ⌜ (r .count ≤ length (now (words .entry))) × (r .letters ≤ length (now (text .entry))) ⌝ }
 {
     let fd = os::open_read(path);
     if fd < 0 {
         fail(err, path, os::errno());
-        return nothing_got();
+        return nothing_got(ERROR);
     }
     read_opened(err, path, rows, fd, text, words)
 }

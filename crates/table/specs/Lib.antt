@@ -1,4 +1,5 @@
 -- Loop tables: rows, the scan, the refusals 1 to 9, and the cases that compute.
+pub mod Letters
 pub mod Rows
 pub mod Said
 pub mod Scan

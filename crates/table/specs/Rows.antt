@@ -1,6 +1,6 @@
 -- A loop table as its words: rows of six, the words each kind uses, the operands, the sort of a value.
--- Main names: `kindAt`, `word`, `size`, the table `rowKinds`, and what is read from it: `fieldAt`, `usedWords`, `operandCount`, `firstOperand`,
--- `wantedSort`; `sortOf`.
+-- Main names: `kindAt`, `word`, `size`, the table `rowKinds`, and what is read from it: `nameOf`, `fieldAt`, `usedWords`, `operandCount`,
+-- `firstOperand`, `wantedSort`; `sortOf`.
 -- Assumes nothing.
 use Prim.Native.Nat.{ℕ, zero, suc, _+_, _*_, _/_, _≤_}
 use mathlib.Core.Bool.{Bool, true, false, cond, _&&_, false≢true}
@@ -10,6 +10,7 @@ use native.Mathlib.Omega.{arith}
 use borrow.Author.Tests.{leb-true}
 use lib.Dec.{eqb, leb, ltb}
 use lib.ListN.{getD, length}
+use Rattle.table.specs.Letters.{letters}
 
 -- 'A table is a list of words, six to a row: its kind, then its words a to e.' Words past the end read as 0.
 abbrev pub kindAt : List ℕ → ℕ → ℕ
@@ -68,24 +69,41 @@ pub record Fields : Type 0 where
 abbrev pub fields : Field → Field → Field → Field → Field → Fields
 fields p q r s u = record { a = p; b = q; c = r; d = s; e = u }
 
--- THE TABLE OF ROW KINDS, in the order of their numbers: INPUT, CONST, OP, PICK, FOR, ARG, NEXT, END, OUT. All that the check and lowering ask
--- about the words of a kind is read from it. OP has its code, x and y; PICK a flag, x and y; FOR start, step, bound, update and condition.
-abbrev pub rowKinds : List Fields
+-- a kind of rows: its name, in the bytes of its letters, and its words
+pub record RowKind : Type 0 where
+  pub name : List ℕ
+  pub words : Fields
+
+abbrev pub kind : List ℕ → Fields → RowKind
+kind n u = record { name = n; words = u }
+
+-- THE TABLE OF ROW KINDS, in the order of their numbers: INPUT, CONST, OP, PICK, FOR, ARG, NEXT, END, OUT. All that the check, lowering and sheets ask
+-- about a kind's name and words is read from it. OP has its code, x and y; PICK a flag, x and y; FOR start, step, bound, update and condition.
+abbrev pub rowKinds : List RowKind
 rowKinds =
-    fields spare spare spare spare spare
-    ∷ fields value spare spare spare spare
-    ∷ fields (code 8) (names 0) (names 0) spare spare
-    ∷ fields (names 1) (names 0) (names 0) spare spare
-    ∷ fields (names 0) (names 0) (names 0) (code 6) (code 5)
-    ∷ fields (names 0) spare spare spare spare
-    ∷ fields (names 0) spare spare spare spare
-    ∷ fields spare spare spare spare spare
-    ∷ fields (names 0) spare spare spare spare
+    kind (letters "input") (fields spare spare spare spare spare)
+    ∷ kind (letters "const") (fields value spare spare spare spare)
+    ∷ kind (letters "op") (fields (code 8) (names 0) (names 0) spare spare)
+    ∷ kind (letters "pick") (fields (names 1) (names 0) (names 0) spare spare)
+    ∷ kind (letters "for") (fields (names 0) (names 0) (names 0) (code 6) (code 5))
+    ∷ kind (letters "arg") (fields (names 0) spare spare spare spare)
+    ∷ kind (letters "next") (fields (names 0) spare spare spare spare)
+    ∷ kind (letters "end") (fields spare spare spare spare spare)
+    ∷ kind (letters "out") (fields (names 0) spare spare spare spare)
     ∷ []
 
--- a number that is no kind uses none
+-- a number that is no kind has no name and uses no word
+abbrev pub noKind : RowKind
+noKind = kind [] (fields spare spare spare spare spare)
+
+abbrev pub kindOf : ℕ → RowKind
+kindOf k = getD rowKinds k noKind
+
+abbrev pub nameOf : ℕ → List ℕ
+nameOf k = kindOf k .name
+
 abbrev pub fieldsOf : ℕ → Fields
-fieldsOf kind = getD rowKinds kind (fields spare spare spare spare spare)
+fieldsOf k = kindOf k .words
 
 -- what word k is, 1 to 5 for a to e
 abbrev pub fieldIn : Fields → ℕ → Field
@@ -172,7 +190,7 @@ at-most-five kind = go (fieldsOf kind)
     go u = let p = one (u .a) in let q = one (u .b) in let r = one (u .c) in let s = one (u .d) in let v = one (u .e) in omega arith
 
 -- What is asked of every row of the table is computed over the table; a number that is no kind has a row too.
-abbrev eachRow : (Fields → Bool) → List Fields → Bool
+abbrev pub eachRow : (RowKind → Bool) → List RowKind → Bool
 eachRow P [] = true
 eachRow P (u ∷ us) = cond (P u) (eachRow P us) false
 
@@ -180,7 +198,7 @@ both : (a b : Bool) → cond a b false ≡ true → (a ≡ true) × (b ≡ true)
 both true b h = (refl, h)
 both false b h = absurd (false≢true h)
 
-of-each : (P : Fields → Bool) (us : List Fields) (d : Fields) → eachRow P us ≡ true → P d ≡ true → (k : ℕ) → P (getD us k d) ≡ true
+pub of-each : (P : RowKind → Bool) (us : List RowKind) (d : RowKind) → eachRow P us ≡ true → P d ≡ true → (k : ℕ) → P (getD us k d) ≡ true
 of-each P [] d h e k = e
 of-each P (u ∷ us) d h e zero = both (P u) (eachRow P us) h .0
 of-each P (u ∷ us) d h e (suc k) = of-each P us d (both (P u) (eachRow P us) h .1) e k
@@ -192,11 +210,11 @@ inOrder u k =
     && eqb (named (fieldIn u k)) (cond (ltb (coded (u .a)) k && leb k (coded (u .a) + summed named u)) 1 0)
 
 pub words-in-order : (kind : ℕ) → (inOrder (fieldsOf kind) 1 && (inOrder (fieldsOf kind) 2 && (inOrder (fieldsOf kind) 3 && (inOrder (fieldsOf kind) 4 && inOrder (fieldsOf kind) 5)))) ≡ true
-words-in-order = of-each (λ u. inOrder u 1 && (inOrder u 2 && (inOrder u 3 && (inOrder u 4 && inOrder u 5)))) rowKinds (fields spare spare spare spare spare) refl refl
+words-in-order = of-each (λ u. inOrder (u .words) 1 && (inOrder (u .words) 2 && (inOrder (u .words) 3 && (inOrder (u .words) 4 && inOrder (u .words) 5)))) rowKinds noKind refl refl
 
 pub at-most-three : (kind : ℕ) → operandCount kind ≤ 3
 unfolding operandCount
-at-most-three kind = leb-true (summed named (fieldsOf kind)) 3 (of-each (λ u. leb (summed named u) 3) rowKinds (fields spare spare spare spare spare) refl refl kind)
+at-most-three kind = leb-true (summed named (fieldsOf kind)) 3 (of-each (λ u. leb (summed named (u .words)) 3) rowKinds noKind refl refl kind)
 
 pub first-is-a-or-b : (kind : ℕ) → (1 ≤ firstOperand kind) × (firstOperand kind ≤ 2)
 unfolding firstOperand

@@ -33,6 +33,9 @@ const END: u32 = 7;
 
 const OUT: u32 = 8;
 
+// How many kinds there are.
+pub const KINDS: u32 = 9;
+
 // The refusals.
 const LENGTH: u32 = 1;
 
@@ -179,7 +182,8 @@ fn allows(u: u32, word: u32) -> bool
     word < u - CODES
 }
 
-fn used_words(kind: u32) -> u32
+// How many of its words a row of this kind uses: the first so many of a to e.
+pub fn used_words(kind: u32) -> u32
     ensures { λ r. ⌜ (r ≡ usedWords kind) × (r ≤ 5) ⌝ }
 {
     let u = fields_of(kind);
@@ -316,7 +320,7 @@ fn kind_before(table: &[u32], r: u32) -> u32
 }
 
 // The first word of row r that breaks a rule, 1 to 5 for a to e; 0 where none does. So are the other tests of words below.
-fn spare_word(table: &[u32], r: u32) -> u32
+pub fn spare_word(table: &[u32], r: u32) -> u32
     requires { ⌜ (r < size (now table)) × (r < 512) ⌝ }
     ensures { λ w. ⌜ w ≡ spareWord (now (table .entry)) r ⌝ }
 {

@@ -9,7 +9,7 @@ pub fn put_rule(out: &mut [u8], at: usize, number: u32) -> usize
     ensures { λ r. ⌜ r ≤ length (now (out .entry)) ⌝ }
 {
     let names =
-        b"none;LENGTH;KIND;SPARE;CODE;PLACE;DEPTH;NAME;TYPE;OPEN;ROOM;SHAPE;NODE;WIRE;READERS;SORT;INPUTS;STATE;ORDER";
+        b"none;LENGTH;KIND;SPARE;CODE;PLACE;DEPTH;NAME;TYPE;OPEN;ROOM;SHAPE;NODE;WIRE;READERS;SORT;INPUTS;STATE;ORDER;TEXT";
     text::put(out, at, text::part(names, number as usize))
 }
 
@@ -19,7 +19,7 @@ pub fn put_asked(out: &mut [u8], at: usize, number: u32) -> usize
     ensures { λ r. ⌜ r ≤ length (now (out .entry)) ⌝ }
 {
     let names =
-        b"nothing;a table has one to 512 rows of six words;a row starts with a kind from 0 to 8;the words that a kind does not use are 0;an operator is 0 to 7, an update 0 to 5, a condition 0 to 4;INPUT and CONST come first, ARG follows FOR or ARG, a loop has as many NEXTs as ARGs, then END, OUT stands last, outside every loop;at most eight loops are open;an operand is the number of an earlier row whose value is visible here;the first operand of PICK is a flag, every other operand is a word;every loop is ended, and there is an OUT;the graph of a table has at most 4,096 nodes, 8,192 wires, 512 starts and 512 results;a graph has 4 + 2S + R + 7n words, and counts within 4,096, 8,192, 512 and 512;starts, kinds, codes, sorts, absent places and output numbers are as the kind asks;every input and result is below W;every wire is read once;what is read has the sort that is asked;one word for each INPUT;a state has 2W + 4n words and is legal;every node number is below the number of nodes";
+        b"nothing;a table has one to 512 rows of six words;a row starts with a kind from 0 to 8;the words that a kind does not use are 0;an operator is 0 to 7, an update 0 to 5, a condition 0 to 4;INPUT and CONST come first, ARG follows FOR or ARG, a loop has as many NEXTs as ARGs, then END, OUT stands last, outside every loop;at most eight loops are open;an operand is the number of an earlier row whose value is visible here;the first operand of PICK is a flag, every other operand is a word;every loop is ended, and there is an OUT;the graph of a table has at most 4,096 nodes, 8,192 wires, 512 starts and 512 results;a graph has 4 + 2S + R + 7n words, and counts within 4,096, 8,192, 512 and 512;starts, kinds, codes, sorts, absent places and output numbers are as the kind asks;every input and result is below W;every wire is read once;what is read has the sort that is asked;one word for each INPUT;a state has 2W + 4n words and is legal;every node number is below the number of nodes;a sheet has a line rows=, 1 to 512, and for each row the lines row=, kind= and a= to e= as far as its kind uses them, with numbers up to 4,294,967,295 and no leading zeros, each line ended by one line feed and nothing else in it";
     text::put(out, at, text::part(names, number as usize))
 }
 

@@ -369,7 +369,7 @@ fn put_wide(out: &mut [u8], at: usize, letter: &[u8], code: u64) -> usize
 }
 
 // The letter that a text starts with.
-fn put_first(out: &mut [u8], at: usize, text: &[u8]) -> usize
+pub fn put_first(out: &mut [u8], at: usize, text: &[u8]) -> usize
     requires { ⌜ at ≤ length (now out) ⌝ }
     ensures { λ r. ⌜ r ≤ length (now (out .entry)) ⌝ }
 {
@@ -403,7 +403,7 @@ fn put_word(out: &mut [u8], at: usize, count: usize) -> usize
     text::put_letter(out, d, b')')
 }
 
-fn put_place(out: &mut [u8], at: usize, p: Place) -> usize
+pub fn put_place(out: &mut [u8], at: usize, p: Place) -> usize
     requires { ⌜ at ≤ length (now out) ⌝ }
     ensures { λ r. ⌜ r ≤ length (now (out .entry)) ⌝ }
 {

@@ -1,10 +1,16 @@
 -- `commands::on_table` is safe and ends. Assumes nothing.
 use mathlib.Core.Path.{sym}
 use native.Mathlib.Omega.{arith}
-use borrow.Author.Needs.{needs}
 use lib.Seq.{length-take-le}
+use borrow.Author.Needs.{needs}
 use Rattle.commands.proofs.on_table.Statement.{statement}
 use Rattle.commands.proofs.on_table.Tie as tie
+use Rattle.commands.proofs.on_table.Reads as reads
+use Rattle.commands.proofs.on_table.Lts as lts
+use Rattle.commands.proofs.check.Reads as check-reads
+use Rattle.commands.proofs.is_written.Reads as is-written-reads
+use Rattle.commands.proofs.lower.Reads as lower-reads
+use Rattle.commands.proofs.write.Reads as write-reads
 
 slice-reshare-prefix-check : tie.Need-slice-reshare-prefix-check
 slice-reshare-prefix-check c = search needs
@@ -21,17 +27,29 @@ same-length c = search needs
 returns : tie.Need-returns
 returns c = search needs
 
-slice-aggregate-lower : tie.Need-slice-aggregate-lower
-slice-aggregate-lower c = search needs
+is-written-requires : tie.Need-is-written-requires
+is-written-requires c κs = search needs
 
-lower-requires : tie.Need-lower-requires
-lower-requires c κs = search needs
+write-requires : tie.Need-write-requires
+write-requires c κs = search needs
 
 same-length-2 : tie.Need-same-length-2
 same-length-2 c = search needs
 
 returns-2 : tie.Need-returns-2
 returns-2 c = search needs
+
+slice-aggregate-lower : tie.Need-slice-aggregate-lower
+slice-aggregate-lower c = search needs
+
+lower-requires : tie.Need-lower-requires
+lower-requires c κs = search needs
+
+same-length-3 : tie.Need-same-length-3
+same-length-3 c = search needs
+
+returns-3 : tie.Need-returns-3
+returns-3 c = search needs
 
 pub on-table-spec : {M : Type 1} → statement M
 on-table-spec =
@@ -42,7 +60,11 @@ on-table-spec =
     check-requires
     same-length
     returns
+    is-written-requires
+    write-requires
+    same-length-2
+    returns-2
     slice-aggregate-lower
     lower-requires
-    same-length-2
-    returns-2)
+    same-length-3
+    returns-3)

@@ -1,0 +1,5 @@
+pub mod Bytes
+pub mod Names
+pub mod Storing
+pub mod Tables
+pub mod Answering

@@ -1,0 +1,4 @@
+pub mod Faults
+pub mod Lines
+pub mod Long
+pub mod Answered
