@@ -301,20 +301,43 @@ fn check_table_line(rest: &[u8], table: &mut [u32], out: &mut [u8]) -> usize
     call_check_table(&table[..n], out)
 }
 
+// A number of words or bytes to be lent, at most so many, and a list behind it.
+struct Lent {
+    lent: usize,
+    count: usize,
+    problem: u32,
+}
+
+fn lent_and_list(rest: &[u8], most: usize, list: &mut [u32]) -> Lent
+    ensures { λ r. ⌜ (r .lent ≤ most) × (r .count ≤ length (now (list .entry))) ⌝ }
+{
+    let lent = text::number(text::part(rest, 0));
+    let t = text::words(text::part(rest, 1), list);
+    let problem = first_of(lent.problem, t.problem);
+    let k = lent.value as usize;
+    if most < k {
+        return Lent {
+            lent: 0,
+            count: t.count,
+            problem: first_of(problem, LENT),
+        };
+    }
+    Lent {
+        lent: k,
+        count: t.count,
+        problem,
+    }
+}
+
 fn lower_line(rest: &[u8], table: &mut [u32], graph: &mut [u32], out: &mut [u8]) -> usize
     ensures { λ r. ⌜ r ≤ length (now (out .entry)) ⌝ }
 {
-    let lent = text::number(text::part(rest, 0));
-    let t = text::words(text::part(rest, 1), table);
-    let problem = first_of(lent.problem, t.problem);
-    if problem != 0 {
-        return error(problem, out);
+    let asked = lent_and_list(rest, graph.len(), table);
+    if asked.problem != 0 {
+        return error(asked.problem, out);
     }
-    let k = lent.value as usize;
-    if graph.len() < k {
-        return error(LENT, out);
-    }
-    let n = t.count;
+    let k = asked.lent;
+    let n = asked.count;
     call_lower(&table[..n], &mut graph[..k], out)
 }
 
@@ -352,35 +375,25 @@ fn read_sheet_bytes(list: &[u32], rows: &mut [u32], out: &mut [u8]) -> usize
 fn read_sheet_line(rest: &[u8], list: &mut [u32], rows: &mut [u32], out: &mut [u8]) -> usize
     ensures { λ r. ⌜ r ≤ length (now (out .entry)) ⌝ }
 {
-    let lent = text::number(text::part(rest, 0));
-    let t = text::words(text::part(rest, 1), list);
-    let problem = first_of(lent.problem, t.problem);
-    if problem != 0 {
-        return error(problem, out);
+    let asked = lent_and_list(rest, rows.len(), list);
+    if asked.problem != 0 {
+        return error(asked.problem, out);
     }
-    let k = lent.value as usize;
-    if rows.len() < k {
-        return error(LENT, out);
-    }
-    let n = t.count;
+    let k = asked.lent;
+    let n = asked.count;
     read_sheet_bytes(&list[..n], &mut rows[..k], out)
 }
 
 fn write_sheet_line(rest: &[u8], table: &mut [u32], out: &mut [u8]) -> usize
     ensures { λ r. ⌜ r ≤ length (now (out .entry)) ⌝ }
 {
-    let lent = text::number(text::part(rest, 0));
-    let t = text::words(text::part(rest, 1), table);
-    let problem = first_of(lent.problem, t.problem);
-    if problem != 0 {
-        return error(problem, out);
-    }
-    let k = lent.value as usize;
     let mut sheet = [0u8; 65536];
-    if sheet.len() < k {
-        return error(LENT, out);
+    let asked = lent_and_list(rest, sheet.len(), table);
+    if asked.problem != 0 {
+        return error(asked.problem, out);
     }
-    let n = t.count;
+    let k = asked.lent;
+    let n = asked.count;
     call_write_sheet(&table[..n], &mut sheet[..k], out)
 }
 
