@@ -8,8 +8,7 @@ use borrow.Author.Tests.{le-leb, lt-leb, eq-eqb, ne-eqb}
 use lib.ListN.{getD}
 use Rattle.table.specs.Rows.{kindAt, size}
 use Rattle.table.specs.Bodies.{argOf}
-use Rattle.structure.specs.Structure.{Structure, right-table-has-structure}
-use Rattle.laid.specs.Reached.{in-table}
+use Rattle.structure.specs.Structure.{Structure, right-table-has-structure, in-table}
 use Rattle.carrying.specs.Kept.{Passing, Pairs, homeFrom}
 
 module _ (t : List ℕ) (v k : ℕ) (e : k ≡ kindAt t v) where

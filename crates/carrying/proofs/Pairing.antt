@@ -10,8 +10,7 @@ use lib.Seq.{getD-set-same, getD-set-other}
 use Rattle.table.specs.Rows.{kindAt, size}
 use Rattle.table.specs.Scan.{bodyOf}
 use Rattle.table.specs.Bodies.{argOf, nextOf, firstOf}
-use Rattle.structure.specs.Structure.{Structure, right-table-has-structure}
-use Rattle.laid.specs.Reached.{in-table}
+use Rattle.structure.specs.Structure.{Structure, right-table-has-structure, in-table}
 use Rattle.carrying.specs.Kept.{Passing, Bodies, Pairs, PairsBefore}
 use Rattle.carrying.specs.Served.{behind-next-serves, first-next-serves}
 

@@ -12,7 +12,7 @@ use Rattle.table.specs.Rows.{kindAt}
 use Rattle.table.specs.Scan.{bodyOf, home, reads}
 use Rattle.structure.specs.Operands.{home-here}
 use Rattle.structure.specs.Structure.{Structure, right-table-has-structure}
-use Rattle.laid.specs.Scanned.{body-after-for, body-after-end, body-after-other}
+use Rattle.structure.specs.Behind.{body-after-for, body-after-end, body-after-other}
 use Rattle.carrying.specs.Kept.{Passing, Bodies}
 
 module _ (t : List ℕ) (n : ℕ) (p : Passing t n) where

@@ -10,8 +10,7 @@ use lib.Dec.{eqb, leb}
 use lib.ListN.{getD}
 use Rattle.table.specs.Rows.{kindAt, size}
 use Rattle.table.specs.Bodies.{argOf}
-use Rattle.structure.specs.Structure.{Structure}
-use Rattle.laid.specs.Reached.{in-table}
+use Rattle.structure.specs.Structure.{Structure, in-table}
 use Rattle.laid.specs.Bases.{wireBase}
 use Rattle.laid.specs.Wired.{homeNumber}
 use Rattle.carrying.specs.Kept.{Bases, homeFrom}

@@ -14,7 +14,7 @@ use Rattle.table.specs.Bodies.{nextsIn, argOf}
 use Rattle.table.specs.Right.{TableRight}
 use Rattle.structure.specs.Place.{next-has-arg, stack-next}
 use Rattle.structure.specs.Loops.{Head, innermost}
-use Rattle.laid.specs.Scanned.{body-after-other}
+use Rattle.structure.specs.Behind.{body-after-other}
 
 -- a loop in which an ARG is left is open
 some-loop : (s : List Loop) → argLeft s ≡ true → (l : Loop) × (o : List Loop) × (s ≡ l ∷ o)

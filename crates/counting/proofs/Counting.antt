@@ -24,12 +24,11 @@ use Rattle.graph.specs.Below.{total, total-more}
 use Rattle.table.specs.Rows.{kindAt, size, operandCount, at-most-three}
 use Rattle.table.specs.Bodies.{operand, nextOf}
 use Rattle.table.specs.Check.{answer, tableRefusal}
-use Rattle.structure.specs.Structure.{Structure}
+use Rattle.structure.specs.Structure.{Structure, in-table}
 use Rattle.lowered.specs.Gathered.{gathered, each}
 use Rattle.lowered.specs.Roles.{Role, opNode, stream, gate, guard, carry, argSplit}
 use Rattle.lowered.specs.Sources.{carried, isOp, isFor, isArgRow}
 use Rattle.lowered.specs.Lower.{carriedInto, copy, rowRoles, roles, starts, outputsBy, roleOutputs, roleKind, wires, plainNodes, plainWires, nodeTotal, wireTotal, startTotal, resultTotal}
-use Rattle.laid.specs.Reached.{in-table}
 use Rattle.laid.specs.Those.{those-few}
 use Rattle.laid.specs.Bases.{length-pieces, starts-long}
 use Rattle.carrying.specs.Kept.{Passing, Pairs, Uses, Counted}

@@ -22,7 +22,7 @@ use Rattle.step.specs.Kinds.{out0, out1}
 use Rattle.graph.specs.Below.{total, times}
 use Rattle.table.specs.Rows.{kindAt, size, operandCount}
 use Rattle.table.specs.Bodies.{operand, nextOf}
-use Rattle.structure.specs.Structure.{Structure}
+use Rattle.structure.specs.Structure.{Structure, in-table}
 use Rattle.lowered.specs.Gathered.{gathered, those, some?, each}
 use Rattle.lowered.specs.Lists.{Among, has-elem, below-or-last}
 use Rattle.lowered.specs.Roles.{Role, opNode, stream, gate, guard, copySplit, copyInvariant, carry, argSplit, Wire, start, output, Use}
@@ -34,7 +34,7 @@ use Rattle.laid.specs.Indexed.{sumOf, sum-append, total-along, total-same, each
 use Rattle.laid.specs.Legs.{standing}
 use Rattle.laid.specs.Bases.{length-pieces, no-roles, for-outputs, arg-outputs, op-outputs}
 use Rattle.laid.specs.Made.{home-of-start, home-of-op, home-of-for, home-of-arg, home-of-next}
-use Rattle.laid.specs.Reached.{some-from, some-has, in-table}
+use Rattle.laid.specs.Reached.{some-from, some-has}
 use Rattle.laid.specs.Taken.{made}
 use Rattle.laid.specs.Counts.{sourceNumber, source-number, useWires, users-are-counted, fork-nodes-by-number, fork-wires-by-number}
 use Rattle.laid.specs.Sourced.{rowSources, copySources, outSource, use-wires-by-rows}

@@ -21,7 +21,7 @@ use Rattle.table.specs.Rows.{kindAt, size, operandCount}
 use Rattle.table.specs.Scan.{bodyOf, reads, home}
 use Rattle.table.specs.Bodies.{operand, argOf, nextOf}
 use Rattle.structure.specs.Spans.{Encloses}
-use Rattle.structure.specs.Structure.{Structure}
+use Rattle.structure.specs.Structure.{Structure, in-table}
 use Rattle.lowered.specs.Lists.{Among, none-some}
 use Rattle.lowered.specs.Roles.{Role, opNode, stream, gate, guard, copySplit, copyInvariant, carry, argSplit, Wire, start, output, Use, into, result}
 use Rattle.lowered.specs.Sources.{carried, homeWire, valueWire, value, nothing, named, isOp, isFor, isArgRow, roleFeed, wireOf, source}
@@ -29,7 +29,7 @@ use Rattle.lowered.specs.Lower.{isOut, users}
 use Rattle.laid.specs.Listed.{Real, and-true, and-both}
 use Rattle.laid.specs.Made.{op-kind, node-feed, result-feed, home-of-start, home-of-op, home-of-for, home-of-arg, home-of-next}
 use Rattle.laid.specs.Uses.{listed-use-is, node-use-is-listed, result-use-is-listed, users-are, users-has}
-use Rattle.laid.specs.Reached.{in-table, carried-by}
+use Rattle.laid.specs.Reached.{carried-by}
 use Rattle.laid.specs.Scanned.{Walks, here, further, out-of, at-the-rim, around-body, reads-body-or-rim, walked-is-carried, carried-is-walked}
 use Rattle.naming.specs.Names.{wireWhat, wireRow}
 

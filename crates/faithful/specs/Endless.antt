@@ -18,13 +18,14 @@ use lib.ListN.{length, length-append}
 use Rattle.table.specs.Rows.{size}
 use Rattle.table.specs.Bodies.{rowAt}
 use Rattle.structure.specs.Structure.{Structure}
+use Rattle.reading.specs.Steps.{step-below, step-past}
 use Rattle.reading.specs.Reading.{Outcome, Step, on, stop, step, andThen, readFrom}
 use Rattle.reading.specs.Reading
 use Rattle.lowered.specs.Roles.{Role}
 use Rattle.uses.specs.Machine.{State, Steps, steps-append}
 use Rattle.faithful.specs.Table.{plan}
 use Rattle.faithful.specs.Tables.{tableOf, row-at}
-use Rattle.faithful.specs.Following.{Follows, one-step, step-below, step-past}
+use Rattle.faithful.specs.Following.{Follows, one-step}
 
 -- one step more, from row pc to row pc₁ with n firings, before k steps with n₁ firings; the rows are z
 one-more : (z k pc pc₁ n n₁ : ℕ) → k + pc₁ ≤ n₁ * suc z + z → pc ≤ z → (pc < pc₁) ⊎ (0 < n) → suc k + pc ≤ (n + n₁) * suc z + z
@@ -81,7 +82,7 @@ module _ (t : List ℕ) (S : Structure t) where
       go (on r₁) e later =
           elim (decLt (r .pc) (size t)) [
             | yes l ↦
-                let P = one-step t S (rowAt t (r .pc)) (r .pc) (r .env) (r .openings) s (row-at t (r .pc) l) l F r₁ (sym (step-below t S r l) ∙ e) in
+                let P = one-step t S (rowAt t (r .pc)) (r .pc) (r .env) (r .openings) s (row-at t (r .pc) l) l F r₁ (sym (step-below t r l) ∙ e) in
                 goes r₁ e (P .0) (P .1) (P .2) (P .4) (later r₁ (P .1) (P .3))
-            | no n ↦ let q = step-past t S r (omega arith) in let z : _≡_ {A = ℕ} 0 1 = cc in absurd (omega arith)
+            | no n ↦ let q = step-past t r (omega arith) in let z : _≡_ {A = ℕ} 0 1 = cc in absurd (omega arith)
           ]

@@ -27,6 +27,7 @@ use Rattle.table.specs.Bodies
 use Rattle.structure.specs.Structure.{Structure}
 use Rattle.reading.specs.Reading.{Opening, opening, Outcome, ended, zeroStep, Step, on, stop, oneTurn, resultsFrom, turn, leave, nextNamed, argNamed, forStep, endStep, endBy, rowStep, step, andThen, readFrom}
 use Rattle.reading.specs.Reading
+use Rattle.reading.specs.Steps.{step-below, step-past}
 use Rattle.lowered.specs.Roles.{Role, stream, gate}
 use Rattle.uses.specs.Machine.{State, Steps, steps-append}
 use Rattle.faithful.specs.Table.{Table, IsFor, isArg, plan}
@@ -512,14 +513,6 @@ module _ (t : List ℕ) (S : Structure t) where
         outcome = e .outcome;
       })
 
-  pub step-below : (r : Reading.State) → r .pc < size t → step t r ≡ rowStep (rowAt t (r .pc)) t (r .pc) (r .env) (r .openings)
-  unfolding step
-  step-below r l = rw (lt-ltb (r .pc) (size t) l, step)
-
-  pub step-past : (r : Reading.State) → size t ≤ r .pc → step t r ≡ stop (ended (resultsFrom (size t) t (r .env) 0) (reverse (r .openings)))
-  unfolding step
-  step-past r l = rw (le-ltb (r .pc) (size t) l, step)
-
   -- THE READING, followed to its outcome
   pub followed : (k : ℕ) (r : Reading.State) (s : State) → Follows r s → (o : Outcome) → readFrom k t r ≡ some o → Ended s o ⊎ Faulted s o
   unfolding readFrom
@@ -530,7 +523,7 @@ module _ (t : List ℕ) (S : Structure t) where
       stopped p e d =
           elim (decLt (r .pc) (size t)) [
             | yes l ↦
-                let x = one-stop (rowAt t (r .pc)) (r .pc) (r .env) (r .openings) (Tables.row-at t (r .pc) l) p (sym (step-below r l) ∙ e) in
+                let x = one-stop (rowAt t (r .pc)) (r .pc) (r .env) (r .openings) (Tables.row-at t (r .pc) l) p (sym (step-below t r l) ∙ e) in
                 inr (record {
                   loop = r .pc;
                   start = x .0;
@@ -550,7 +543,7 @@ module _ (t : List ℕ) (S : Structure t) where
                 })
             | no n ↦
                 let q : r .pc ≡ size t = let b = F .below in omega arith in
-                let f : stop p ≡ stop (ended (resultsFrom (size t) t (r .env) 0) (reverse (r .openings))) = sym e ∙ step-past r (omega arith) in
+                let f : stop p ≡ stop (ended (resultsFrom (size t) t (r .env) 0) (reverse (r .openings))) = sym e ∙ step-past t r (omega arith) in
                 let f′ : p ≡ ended (resultsFrom (size t) t (r .env) 0) (reverse (r .openings)) = cc in
                 inl (record {
                   env = r .env;
@@ -568,9 +561,9 @@ module _ (t : List ℕ) (S : Structure t) where
       goes r₁ e d ih =
           elim (decLt (r .pc) (size t)) [
             | yes l ↦
-                let P = one-step (rowAt t (r .pc)) (r .pc) (r .env) (r .openings) s (Tables.row-at t (r .pc) l) l F r₁ (sym (step-below r l) ∙ e) in
+                let P = one-step (rowAt t (r .pc)) (r .pc) (r .env) (r .openings) s (Tables.row-at t (r .pc) l) l F r₁ (sym (step-below t r l) ∙ e) in
                 on-path (P .0) s (P .1) (P .2) o (ih r₁ (P .1) (P .3) o d)
-            | no n ↦ let q = step-past r (omega arith) in let z : _≡_ {A = ℕ} 0 1 = cc in absurd (omega arith)
+            | no n ↦ let q = step-past t r (omega arith) in let z : _≡_ {A = ℕ} 0 1 = cc in absurd (omega arith)
           ]
 
       go : (x : Step) → step t r ≡ x → andThen x (λ s₁. readFrom k t s₁) ≡ some o

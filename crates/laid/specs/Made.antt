@@ -22,14 +22,14 @@ use Rattle.graph.specs.Graph.{hasInput}
 use Rattle.table.specs.Rows.{kindAt, word, size, operandCount, firstOperand, sortOf, wantedSort, fieldAt, every-other-names-a-word}
 use Rattle.table.specs.Scan.{bodyOf, home}
 use Rattle.table.specs.Bodies.{argOf, nextOf}
-use Rattle.structure.specs.Structure.{Structure}
+use Rattle.structure.specs.Structure.{Structure, in-table}
 use Rattle.lowered.specs.Roles.{Role, opNode, stream, gate, guard, copySplit, copyInvariant, carry, argSplit, Wire, start, output, Use, into, result}
 use Rattle.lowered.specs.Sources.{carried, homeWire, valueWire, Feed, value, inner, nothing, named, isOp, isFor, isArgRow, has, roleFeed, feed, wireOf, source}
 use Rattle.lowered.specs.Lower.{roleKind, roleSort, wireSort, isOut, uses}
 use Rattle.laid.specs.Lists.{Among}
 use Rattle.laid.specs.Listed.{and-true, and-both, roleRow, roleValue, Real, Made}
 use Rattle.laid.specs.Uses.{listed-use-is}
-use Rattle.laid.specs.Reached.{in-table, carried-by, Reached, operand-is-reached, copy-is-reached}
+use Rattle.laid.specs.Reached.{carried-by, Reached, operand-is-reached, copy-is-reached}
 
 -- an operator's sort is that of its value
 operator-sort : (c : ℕ) → operatorSort c ≡ cond (leb 3 c) 1 0

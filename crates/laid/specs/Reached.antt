@@ -16,12 +16,11 @@ use native.Mathlib.Omega.{arith}
 use native.Mathlib.Decide.{ℕ-discrete, decLt}
 use borrow.Author.Tests.{eqb-true, eqb-false, eq-eqb, ne-eqb}
 use lib.Dec.{eqb}
-use lib.ListN.{List·getD-eq-default}
 use Rattle.table.specs.Rows.{kindAt, size, operandCount}
 use Rattle.table.specs.Scan.{stackAt, bodyOf, reads, home, holds}
 use Rattle.table.specs.Bodies.{operand, endOf}
 use Rattle.structure.specs.Spans.{open-is-for, Encloses, same, inside as within, outermost}
-use Rattle.structure.specs.Structure.{Structure}
+use Rattle.structure.specs.Structure.{Structure, in-table}
 use Rattle.lowered.specs.Gathered.{some?}
 use Rattle.lowered.specs.Sources.{inside, names, carried}
 use Rattle.laid.specs.Listed.{and-true, and-both, no-both}
@@ -131,14 +130,6 @@ module _ (t : List ℕ) where
       (and-true (inside t L (reads t r)) (names t r v) i (some-has (λ j. eqb (operand t r j) v) (operandCount (kindAt t r)) j lj (eq-eqb (operand t r j) v e))))
 
 module _ (t : List ℕ) (S : Structure t) where
-  -- words past the end read as 0
-  pub in-table : (r : ℕ) → kindAt t r ≢ 0 → r < size t
-  in-table r n =
-      elim (decLt r (size t)) [
-        | yes p ↦ p
-        | no p ↦ absurd (n (List·getD-eq-default t 0 {n = 6 * r} (let q = over r (size t) p in omega (arith, S .words))))
-      ]
-
   pub reads-loop : (r : ℕ) → r < size t → reads t r ≢ size t → (kindAt t (reads t r) ≡ 4) × (reads t r < size t)
   reads-loop r less n = elim (ℕ-discrete (kindAt t r) 5) [ yes k ↦ of-arg k | no k ↦ of-row k ]
     where
@@ -172,7 +163,7 @@ module _ (t : List ℕ) (S : Structure t) where
       go : home t v ≢ reads t r → Encloses t (home t v) (reads t r) → Reached v (reads t r)
       go n (same e) = inl e
       go n (within k low high) =
-          let s = S .loop-span (home t v) (in-table (home t v) (λ z. omega arith)) k in
+          let s = S .loop-span (home t v) (in-table t S (home t v) (λ z. omega arith)) k in
           let end-in = s .inside in
           into-loop n (λ z. omega arith) (not-held t (reads t r) (home t v) (λ h. let o = open-is-for t (home t v) (reads t r) h .0 in omega arith))
       go n (outermost e) = into-loop n (λ z. n (e ∙ sym z)) (ap (λ (x : ℕ). holds (reads t r) (stackAt t x)) e ∙ nothing-open (reads t r))
@@ -211,12 +202,12 @@ module _ (t : List ℕ) (S : Structure t) where
 
       -- H is a loop around L
       by-loop : H ≢ bodyOf t L → kindAt t H ≡ 4 → H < L → L ≤ endOf t H → Reached v (bodyOf t L)
-      by-loop n kH low high = out (S .body-inmost L H (omega arith) (in-table H (λ z. omega arith)) (record { is-for = kH; low = low; high = high }))
+      by-loop n kH low high = out (S .body-inmost L H (omega arith) (in-table t S H (λ z. omega arith)) (record { is-for = kH; low = low; high = high }))
         where
           out : Encloses t H (bodyOf t L) → Reached v (bodyOf t L)
           out (same e) = inl e
           out (within q a b) =
-              let s = S .loop-span H (in-table H (λ z. omega arith)) kH in
+              let s = S .loop-span H (in-table t S H (λ z. omega arith)) kH in
               let end-in = s .inside in
               around n (λ z. omega arith) (not-held t (bodyOf t L) H (λ h. let o = open-is-for t H (bodyOf t L) h .0 in omega arith))
           out (outermost e) = absurd (omega arith)

@@ -1,7 +1,5 @@
--- What a program keeps going down the rows of a table that passes, with no stack: the body before each row from the row before, and the
--- loops that a value passes on its way in, found loop by loop going outward.
+-- The loops that a value passes on its way in, found loop by loop going outward: what a program finds of a table that passes with no stack.
 --
---   body-first, body-after-for, body-after-end, body-after-other      the body before a row
 --   Walks                         loop L is passed on the way from body B out to the home of v
 --   walk-stops                    at home nothing is passed; elsewhere (`here`, `further`) B, and what the body around B passes
 --   walked-is-carried, carried-is-walked      carried into L is: passed on the way of some operand
@@ -11,60 +9,18 @@ use Prim.Native.Nat.{ℕ, zero, suc, _<_}
 use mathlib.Core.Path.{_≡_, refl, sym, ap, _∙_, subst}
 use mathlib.Core.Logic.{_≢_, _⊎_, inl, inr}
 use mathlib.Core.Bool.{Bool, true, false}
-use mathlib.Core.List.{List, [], _∷_}
+use mathlib.Core.List.{List}
 use native.Mathlib.Omega.{arith}
 use native.Mathlib.Decide.{ℕ-discrete}
-use borrow.Author.Tests.{ne-eqb}
 use Rattle.table.specs.Rows.{kindAt, size, operandCount}
-use Rattle.table.specs.Scan.{Loop, oneArg, oneNext, atHead, after, inner, stackAt, bodyOf, reads, home, holds, outward}
+use Rattle.table.specs.Scan.{stackAt, bodyOf, reads, home, holds}
 use Rattle.table.specs.Bodies.{operand}
-use Rattle.table.specs.Right.{TableRight}
-use Rattle.structure.specs.Loops.{innermost}
-use Rattle.structure.specs.Order.{nothing-left-open}
 use Rattle.structure.specs.Spans.{open-is-for, Encloses, same, inside as within, outermost}
-use Rattle.structure.specs.Structure.{Structure, InLoop}
+use Rattle.structure.specs.Structure.{Structure, InLoop, in-table}
 use Rattle.lowered.specs.Sources.{inside, carried}
 use Rattle.laid.specs.Listed.{no-both}
-use Rattle.laid.specs.Reached.{carried-by, carried-is, inside-cases, inside-at, inside-by, in-table, reads-loop}
+use Rattle.laid.specs.Reached.{carried-by, carried-is, inside-cases, inside-at, inside-by, reads-loop}
 
--- ---- the body before each row
-pub body-first : (t : List ℕ) → bodyOf t 0 ≡ size t
-unfolding bodyOf stackAt
-body-first t = refl
-
-pub body-after-for : (t : List ℕ) (r : ℕ) → kindAt t r ≡ 4 → bodyOf t (suc r) ≡ r
-unfolding bodyOf stackAt after
-body-after-for t r k = rw k
-
-pub body-after-end : (t : List ℕ) → TableRight t → (r : ℕ) → r < size t → kindAt t r ≡ 7 → bodyOf t (suc r) ≡ bodyOf t (bodyOf t r)
-unfolding bodyOf stackAt after
-body-after-end t ok r l k = rw k (go (stackAt t r) refl)
-  where
-    go : (s : List Loop) → stackAt t r ≡ s → inner (size t) (outward s) ≡ inner (size t) (stackAt t (inner (size t) s))
-    go [] e = ap (inner (size t)) (sym (nothing-left-open t ok))
-    go (x ∷ s) e = ap (inner (size t)) (sym (innermost t ok r (omega arith) x s e .around))
-
--- ARG and NEXT only count
-same-inner : (n : ℕ) (f : Loop → Loop) → ((l : Loop) → f l .row ≡ l .row) → (s : List Loop) → inner n (atHead f s) ≡ inner n s
-same-inner n f h [] = refl
-same-inner n f h (l ∷ s) = h l
-
-counted-inner : (n kind r : ℕ) (s : List Loop) → kind ≢ 4 → kind ≢ 7 → inner n (after kind r s) ≡ inner n s
-unfolding after
-counted-inner n kind r s a b =
-    elim (ℕ-discrete kind 5) [
-      | yes e ↦ rw e (same-inner n oneArg (λ l. refl) s)
-      | no e ↦ elim (ℕ-discrete kind 6) [
-        | yes d ↦ rw d (same-inner n oneNext (λ l. refl) s)
-        | no d ↦ rw (ne-eqb kind 4 a, ne-eqb kind 5 e, ne-eqb kind 6 d, ne-eqb kind 7 b)
-      ]
-    ]
-
-pub body-after-other : (t : List ℕ) (r : ℕ) → kindAt t r ≢ 4 → kindAt t r ≢ 7 → bodyOf t (suc r) ≡ bodyOf t r
-unfolding bodyOf stackAt
-body-after-other t r a b = counted-inner (size t) (kindAt t r) r (stackAt t r) a b
-
--- ---- the way in
 -- loop L is B, or passed further out; the way stops at the home of v
 pub data Walks (t : List ℕ) (v L : ℕ) : ℕ → Type 0 where
   here : home t v ≢ L → Walks t v L L

@@ -18,12 +18,12 @@ use Rattle.step.specs.Kinds.{out0}
 use Rattle.table.specs.Rows.{kindAt, size}
 use Rattle.table.specs.Scan.{home}
 use Rattle.table.specs.Bodies.{argOf}
-use Rattle.structure.specs.Structure.{Structure}
+use Rattle.structure.specs.Structure.{Structure, in-table}
 use Rattle.lowered.specs.Roles.{copyInvariant, output}
 use Rattle.lowered.specs.Sources.{homeWire, valueWire, isOp}
 use Rattle.lowered.specs.Lower.{wireNumber}
 use Rattle.laid.specs.Made.{home-of-start, home-of-op, home-of-for, home-of-arg, home-of-next}
-use Rattle.laid.specs.Reached.{in-table, Reached}
+use Rattle.laid.specs.Reached.{Reached}
 use Rattle.laid.specs.Bases.{wireBase, copyPlace, start-number, op-number, gate-number, arg-number, copy-number}
 
 -- INPUT, CONST: the row; OP, PICK: the row's first; FOR: the third; ARG: the second; NEXT: the third of its ARG

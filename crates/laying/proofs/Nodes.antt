@@ -13,14 +13,13 @@ use Rattle.graph.specs.Graph.{absent}
 use Rattle.table.specs.Rows.{kindAt, word, size, operandCount}
 use Rattle.table.specs.Scan.{bodyOf}
 use Rattle.table.specs.Bodies.{nextOf}
-use Rattle.structure.specs.Structure.{Structure, right-table-has-structure}
+use Rattle.structure.specs.Structure.{Structure, right-table-has-structure, in-table}
 use Rattle.lowered.specs.Gathered.{gathered}
 use Rattle.lowered.specs.Roles.{opNode, stream, gate, guard, carry, argSplit}
 use Rattle.lowered.specs.Sources.{isOp}
 use Rattle.lowered.specs.Lower.{rowRoles, roles, plainNodes}
 use Rattle.laid.specs.Lists.{below-or-last}
 use Rattle.laid.specs.Made.{op-kind}
-use Rattle.laid.specs.Reached.{in-table}
 use Rattle.laid.specs.Bases.{nodeBase, wireBase, node-base-op, node-base-for, node-base-arg}
 use Rattle.laid.specs.Sourced.{operandNumber}
 use Rattle.written.specs.Plain.{RightRow}

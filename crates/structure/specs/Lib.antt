@@ -8,5 +8,6 @@ pub mod Operands
 pub mod Order
 pub mod Depth
 pub mod Paper
+pub mod Behind
 pub mod Structure
 pub mod Cases

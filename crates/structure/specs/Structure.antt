@@ -1,5 +1,5 @@
 -- THE STRUCTURE OF A TABLE THAT PASSES, in one record: what lowering and the proof of the plain reading rest on.
--- Main results: `Structure`, `passing-table-has-structure`.
+-- Main results: `Structure`, `passing-table-has-structure`, `in-table`.
 -- A body is a loop's FOR row, the outermost one the row count. Of loop L: `firstOf t L` is the row behind its ARGs, `endOf t L` its END.
 -- Assumes nothing.
 use Prim.Native.Nat.{ℕ, suc, _*_, _<_, _≤_}
@@ -9,7 +9,7 @@ use mathlib.Core.Logic.{_≢_, _⊎_, inl, inr}
 use mathlib.Core.Path.{_≡_, refl, sym, ap, _∙_, subst}
 use native.Mathlib.Omega.{arith}
 use native.Mathlib.Decide.{decLe}
-use lib.ListN.{length}
+use lib.ListN.{length, List·getD-eq-default}
 use Rattle.table.specs.Rows.{kindAt, word, size, operandCount}
 use Rattle.table.specs.Scan.{Loop, stackAt, bodyOf, reads, readStack, home, holds, outward}
 use Rattle.table.specs.Check.{tableRefusal, answer}
@@ -171,3 +171,11 @@ module _ (t : List ℕ) (ok : TableRight t) where
 -- EVERY TABLE THAT PASSES 1 TO 9 HAS THE STRUCTURE
 pub passing-table-has-structure : (t : List ℕ) → tableRefusal t ≡ answer 0 0 → Structure t
 passing-table-has-structure t e = right-table-has-structure t (passing-table-is-right t e)
+
+-- words past the end read as 0
+pub in-table : (t : List ℕ) → Structure t → (r : ℕ) → kindAt t r ≢ 0 → r < size t
+in-table t S r n =
+    elim (decLe (size t) r) [
+      | yes p ↦ absurd (n (List·getD-eq-default t 0 {n = 6 * r} (omega (arith, S .words))))
+      | no p ↦ omega arith
+    ]

@@ -4,7 +4,7 @@ use mathlib.Core.Path.{_≡_, sym, _∙_}
 use native.Mathlib.Omega.{arith}
 use borrow.Author.Needs.{needs}
 use lib.ListN.{length-replicate}
-use Rattle.laid.specs.Scanned.{body-first}
+use Rattle.structure.specs.Behind.{body-first}
 use Rattle.table.specs.Scan.{bodyOf}
 use Rattle.carrying.proofs.Scanning.{none-noted, one-noted, fewer-noted}
 use Rattle.carrying.specs.Kept.{Bodies}
