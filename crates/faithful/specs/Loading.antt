@@ -24,11 +24,12 @@ use Rattle.state.specs.Load.{startWord, loaded}
 use Rattle.state.specs.Loaded.{loadedAt, loaded-length, loaded-at}
 use Rattle.table.specs.Rows.{kindAt, word, size, INPUT, CONST}
 use Rattle.structure.specs.Structure.{Structure}
-use Rattle.reading.specs.Reading.{inputsBelow, firstWords}
+use Rattle.reading.specs.Reading.{firstWords}
 use Rattle.lowered.specs.Gathered.{those, each, position}
 use Rattle.lowered.specs.Roles.{start}
 use Rattle.lowered.specs.Lower.{isStart, startRows, starts, wires, wireNumber, roles, roleOutputs, startWords, plainWires, wireTotal, startTotal, loweredWords}
 use Rattle.laid.specs.Lists.{has-elem, there, in-range, elem-left, at-position, those-from, those-has, none-some}
+use Rattle.laid.specs.Those.{rows-counted}
 use Rattle.laid.specs.Words.{wire-count, start-count, start-kind-at, start-word-at}
 use Rattle.uses.specs.Layout.{Made}
 use Rattle.uses.specs.Flat.{Holds, flag, word as wordOf}
@@ -45,18 +46,6 @@ unfolding each
 starts-at [] k v h = none-some v h
 starts-at (x ∷ xs) zero v h = let e : x ≡ v = cc in ap (λ (z : ℕ). some (start z)) e
 starts-at (x ∷ xs) (suc k) v h = starts-at xs k v h
-
--- how many INPUTs stand before a row
-inputs-counted : (t : List ℕ) (r : ℕ) → length (those (λ q. eqb (kindAt t q) INPUT) r) ≡ inputsBelow t r
-unfolding those inputsBelow
-inputs-counted t zero = refl
-inputs-counted t (suc r) =
-    length-append (those (λ q. eqb (kindAt t q) INPUT) r) (cond (eqb (kindAt t r) INPUT) (r ∷ []) []) ∙ go (eqb (kindAt t r) INPUT) (inputs-counted t r)
-  where
-    go : (b : Bool) → length (those (λ q. eqb (kindAt t q) INPUT) r) ≡ inputsBelow t r
-        → length (those (λ q. eqb (kindAt t q) INPUT) r) + length (cond b (r ∷ []) []) ≡ cond b (suc (inputsBelow t r)) (inputsBelow t r)
-    go true e = omega arith
-    go false e = omega arith
 
 -- the word at a place of a loaded state, by whether the place is even
 pair-even : (x a b : ℕ) → (p : ℕ) → p ≡ 2 * x → Words.pick (eqb (p % 2) 0) a b ≡ a
@@ -93,21 +82,21 @@ module _ (t : List ℕ) (S : Structure t) (inputs : List ℕ) where
       ap₂ (λ (a b : ℕ). Words.pick (eqb a 0) (getD inputs b 0) b) (start-kind-at t k v h) (start-word-at t k v h) ∙ go (ℕ-discrete (kindAt t v) 0)
     where
       go : Dec (kindAt t v ≡ 0) → Words.pick (eqb (getD (startWords t v) 0 0) 0) (getD inputs (getD (startWords t v) 1 0) 0) (getD (startWords t v) 1 0)
-          ≡ cond (eqb (kindAt t v) INPUT) (getD inputs (inputsBelow t v) 0) (cond (eqb (kindAt t v) CONST) (word t v 1) 0)
+          ≡ cond (eqb (kindAt t v) INPUT) (getD inputs (rowsOf INPUT t v) 0) (cond (eqb (kindAt t v) CONST) (word t v 1) 0)
       go (yes e) =
           let b : eqb (kindAt t v) 0 ≡ true = eq-eqb (kindAt t v) 0 e in
           ap (λ (c : Bool). Words.pick (eqb (getD (cond c (0 ∷ length (those (λ q. eqb (kindAt t q) INPUT) v) ∷ []) (1 ∷ word t v 1 ∷ [])) 0 0) 0)
           (getD inputs (getD (cond c (0 ∷ length (those (λ q. eqb (kindAt t q) INPUT) v) ∷ []) (1 ∷ word t v 1 ∷ [])) 1 0) 0)
           (getD (cond c (0 ∷ length (those (λ q. eqb (kindAt t q) INPUT) v) ∷ []) (1 ∷ word t v 1 ∷ [])) 1 0)) b
-          ∙ ap (λ (z : ℕ). getD inputs z 0) (inputs-counted t v)
-          ∙ sym (ap (λ (c : Bool). cond c (getD inputs (inputsBelow t v) 0) (cond (eqb (kindAt t v) CONST) (word t v 1) 0)) b)
+          ∙ ap (λ (z : ℕ). getD inputs z 0) (rows-counted INPUT t v)
+          ∙ sym (ap (λ (c : Bool). cond c (getD inputs (rowsOf INPUT t v) 0) (cond (eqb (kindAt t v) CONST) (word t v 1) 0)) b)
       go (no n) =
           let b : eqb (kindAt t v) 0 ≡ false = ne-eqb (kindAt t v) 0 n in
           let d : eqb (kindAt t v) 1 ≡ true = eq-eqb (kindAt t v) 1 (omega arith) in
           ap (λ (c : Bool). Words.pick (eqb (getD (cond c (0 ∷ length (those (λ q. eqb (kindAt t q) INPUT) v) ∷ []) (1 ∷ word t v 1 ∷ [])) 0 0) 0)
           (getD inputs (getD (cond c (0 ∷ length (those (λ q. eqb (kindAt t q) INPUT) v) ∷ []) (1 ∷ word t v 1 ∷ [])) 1 0) 0)
           (getD (cond c (0 ∷ length (those (λ q. eqb (kindAt t q) INPUT) v) ∷ []) (1 ∷ word t v 1 ∷ [])) 1 0)) b
-          ∙ sym (ap₂ (λ (c e : Bool). cond c (getD inputs (inputsBelow t v) 0) (cond e (word t v 1) 0)) b d)
+          ∙ sym (ap₂ (λ (c e : Bool). cond c (getD inputs (rowsOf INPUT t v) 0) (cond e (word t v 1) 0)) b d)
 
   -- the token on each wire
   cellBy : Bool → ℕ → Option ℕ

@@ -24,11 +24,12 @@ use Rattle.state.specs.State.{tokenAt}
 use Rattle.state.specs.Run.{COMPLETE, ZERO-STEP, outcome}
 use Rattle.confluence.specs.Statements.{Fires, AtRest, putOnWire}
 use Rattle.table.specs.Rows.{size, fieldAt, usedWords, operandCount, firstOperand, sortOf, wantedSort}
+use Rattle.table.specs.Counted.{rowsOf}
 use Rattle.table.specs.Scan.{after, stackAt, bodyOf, readStack, reads, homeBy, home, bodyOpen, endPassed, visible}
 use Rattle.table.specs.Check.{Refusal, answer, tableRefusal, lengthRight, kindRight, zerosFrom, spareRight, codesFrom, codeRight, follows, stands, placeRight, depthRight, namesFrom, namesRight, typesFrom, typesRight, endRight, rowRefusal, rowsFrom}
 use Rattle.table.specs.Bodies.{rowBy, rowAt, ends, endFrom, endOf, argsFrom, argsOf, firstOf, isArg, isNext, argOf, nextOf}
 use Rattle.table.specs.Cases.{const, loop, arg, next, close, out, sumTable, sumBy, p12Table, sum-passes, p12-passes}
-use Rattle.reading.specs.Reading.{Env, Opening, at, nextNamed, oneTurn, endStep, inputsBelow, firstWords, begin, turn, leave, step, andThen, readFrom, read}
+use Rattle.reading.specs.Reading.{Env, Opening, at, nextNamed, oneTurn, endStep, firstWords, begin, turn, leave, step, andThen, readFrom, read}
 use Rattle.reading.specs.Cases.{p10-reads-10, p11-reads-0, p12-reads-5, zero-step-at-row-3}
 use Rattle.lowered.specs.Lower.{loweredWords}
 use Rattle.lowered.specs.Room.{ROOM, inLimits, refusedBy, checkAnswer}
@@ -43,7 +44,7 @@ unfolding usedWords operandCount firstOperand sortOf wantedSort after stackAt bo
 check-computes = 0
 
 unfoldable pub reading-computes : ℕ
-unfolding condition update after stackAt bodyOf rowBy rowAt ends endFrom endOf argsFrom argsOf firstOf isArg isNext argOf nextOf inputsBelow firstWords begin turn leave step readFrom read
+unfolding condition update after stackAt bodyOf rowBy rowAt ends endFrom endOf argsFrom argsOf firstOf isArg isNext argOf nextOf rowsOf firstWords begin turn leave step readFrom read
 reading-computes = 0
 
 -- a table that passes 1 to 9 and has room is checked

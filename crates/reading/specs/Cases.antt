@@ -5,15 +5,16 @@ use Prim.Native.Nat.{ℕ}
 use mathlib.Core.Path.{refl}
 use mathlib.Core.List.{[], _∷_}
 use Rattle.word.specs.Words.{condition, update, operate}
+use Rattle.table.specs.Counted.{rowsOf}
 use Rattle.table.specs.Scan.{after, stackAt, bodyOf}
 use Rattle.table.specs.Bodies.{rowBy, rowAt, ends, endFrom, endOf, argsFrom, argsOf, firstOf, isArg, isNext, argOf, nextOf}
 use Rattle.table.specs.Cases.{row6, input, const, op, loop, arg, next, close, out, sumTable, sumBy, p12Table}
-use Rattle.reading.specs.Reading.{opening, ended, zeroStep, inputsBelow, firstWords, begin, resultsFrom, turn, leave, step, readFrom, read}
+use Rattle.reading.specs.Reading.{opening, ended, zeroStep, firstWords, begin, resultsFrom, turn, leave, step, readFrom, read}
 use Rattle.reading.specs.Outcome.{Reads}
 
 -- everything that a reading computes with
 reading-computes : ℕ
-unfolding condition update operate after stackAt bodyOf rowBy rowAt ends endFrom endOf argsFrom argsOf firstOf isArg isNext argOf nextOf inputsBelow firstWords begin resultsFrom turn leave step readFrom read
+unfolding condition update operate after stackAt bodyOf rowBy rowAt ends endFrom endOf argsFrom argsOf firstOf isArg isNext argOf nextOf rowsOf firstWords begin resultsFrom turn leave step readFrom read
 reading-computes = 0
 
 -- P10: one opening of the loop at row 3, five turns, and 10

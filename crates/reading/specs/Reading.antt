@@ -12,6 +12,7 @@ use lib.Dec.{eqb, ltb}
 use lib.ListN.{getD}
 use Rattle.word.specs.Words.{condition, update, operate}
 use Rattle.table.specs.Rows.{kindAt, word, size, INPUT, CONST, OUT}
+use Rattle.table.specs.Counted.{rowsOf}
 use Rattle.table.specs.Scan.{bodyOf}
 use Rattle.table.specs.Bodies.{Row, input, const, op, pick, for, arg, next, end, out, unknown, rowAt, endOf, firstOf, isArg, isNext, argOf, nextOf}
 
@@ -59,15 +60,10 @@ abbrev pub oneTurn : ℕ → List Opening → List Opening
 oneTurn L [] = []
 oneTurn L (o ∷ os) = cond (eqb (o .loop) L) (opening L (suc (o .turns)) ∷ os) (o ∷ oneTurn L os)
 
--- how many of the rows below r are INPUTs
-unfoldable pub inputsBelow : List ℕ → ℕ → ℕ
-inputsBelow t zero = 0
-inputsBelow t (suc r) = cond (eqb (kindAt t r) INPUT) (suc (inputsBelow t r)) (inputsBelow t r)
-
 -- 'the n-th INPUT has the n-th input word, a CONST its word, every other row 0'
 unfoldable pub firstWords : List ℕ → List ℕ → Env
 firstWords t inputs r =
-    cond (eqb (kindAt t r) INPUT) (getD inputs (inputsBelow t r) 0) (cond (eqb (kindAt t r) CONST) (word t r 1) 0)
+    cond (eqb (kindAt t r) INPUT) (getD inputs (rowsOf INPUT t r) 0) (cond (eqb (kindAt t r) CONST) (word t r 1) 0)
 
 unfoldable pub begin : List ℕ → List ℕ → State
 begin t inputs = at 0 (firstWords t inputs) []

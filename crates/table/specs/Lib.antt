@@ -2,6 +2,7 @@
 pub mod Letters
 pub mod Rows
 pub mod Said
+pub mod Counted
 pub mod Scan
 pub mod Bodies
 pub mod Check

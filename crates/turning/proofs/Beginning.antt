@@ -12,11 +12,11 @@ use lib.Dec.{eqb}
 use lib.ListN.{length, getD, set, replicate, length-replicate, getD-replicate, length-set, List·getD-eq-default}
 use lib.Seq.{sets, getD-set-same, getD-set-other}
 use Rattle.table.specs.Rows.{kindAt, word, size}
+use Rattle.table.specs.Counted.{rowsOf, rows-rise, row-below}
 use Rattle.table.specs.Right.{TableRight}
 use Rattle.structure.specs.Structure.{right-table-has-structure}
-use Rattle.reading.specs.Reading.{Env, inputsBelow, firstWords, resultsFrom}
+use Rattle.reading.specs.Reading.{Env, firstWords, resultsFrom}
 use Rattle.turning.specs.Words.{envOf, oneMore}
-use Rattle.turning.specs.Counted.{rowsOf, rows-few, rows-rise, row-below, inputs-are-rows}
 
 -- ---- rows counted
 module _ (kind : ℕ) (t : List ℕ) where
@@ -28,25 +28,12 @@ module _ (kind : ℕ) (t : List ℕ) where
   unfolding rowsOf
   one-counted r n k m a b c = rw (add-one r) (c ∙ ap (λ (x : ℕ). oneMore x kind n) b ∙ ap (oneMore (kindAt t r) kind) a)
 
-pub no-inputs : (t : List ℕ) → 0 ≡ inputsBelow t 0
-unfolding inputsBelow
-no-inputs t = refl
-
-pub one-input : (t : List ℕ) (r n k m : ℕ) → n ≡ inputsBelow t r → k ≡ kindAt t r → m ≡ oneMore k 0 n → m ≡ inputsBelow t (r + 1)
-one-input t r n k m a b c = one-counted 0 t r n k m (a ∙ inputs-are-rows t r) b c ∙ sym (inputs-are-rows t (r + 1))
-
-pub inputs-few : (t : List ℕ) (r : ℕ) → inputsBelow t r ≤ r
-inputs-few t r = let e = inputs-are-rows t r in let f = rows-few 0 t r in omega arith
-
-input-below : (t : List ℕ) (r n : ℕ) → r < n → kindAt t r ≡ 0 → inputsBelow t r < inputsBelow t n
-input-below t r n l k = let e = inputs-are-rows t r in let f = inputs-are-rows t n in let g = row-below 0 t r n l k in omega arith
-
-pub input-inside : (t : List ℕ) (r before len : ℕ) → r < size t → before ≡ inputsBelow t r → len ≡ inputsBelow t (size t) → kindAt t r ≡ 0 → before < len
-input-inside t r before len l a b k = let q = input-below t r (size t) l k in omega arith
+pub input-inside : (t : List ℕ) (r before len : ℕ) → r < size t → before ≡ rowsOf 0 t r → len ≡ rowsOf 0 t (size t) → kindAt t r ≡ 0 → before < len
+input-inside t r before len l a b k = let q = row-below 0 t r (size t) l k in omega arith
 
 -- ---- one first word
 module _ (t inputs : List ℕ) (r : ℕ) where
-  pub input-word : kindAt t r ≡ 0 → firstWords t inputs r ≡ getD inputs (inputsBelow t r) 0
+  pub input-word : kindAt t r ≡ 0 → firstWords t inputs r ≡ getD inputs (rowsOf 0 t r) 0
   unfolding firstWords
   input-word k = rw k
 
@@ -88,7 +75,7 @@ one-begun t inputs r words w l B e =
 past-kind : (t : List ℕ) (x : ℕ) → length t ≤ 6 * x → kindAt t x ≡ 0
 past-kind t x h = List·getD-eq-default t 0 {n = 6 * x} h
 
-all-begun : (t inputs words : List ℕ) (r : ℕ) → length t ≤ 6 * r → length inputs ≤ inputsBelow t r → Begun t inputs r words → envOf words ≡ firstWords t inputs
+all-begun : (t inputs words : List ℕ) (r : ℕ) → length t ≤ 6 * r → length inputs ≤ rowsOf 0 t r → Begun t inputs r words → envOf words ≡ firstWords t inputs
 unfolding envOf
 all-begun t inputs words r long few B = λ i x. at x i
   where
@@ -97,10 +84,8 @@ all-begun t inputs words r long few B = λ i x. at x i
         elim (decLt x r) [
           | yes l ↦ B .set-below x l
           | no n ↦
-              let e = inputs-are-rows t r in
-              let f = inputs-are-rows t x in
               let g = rows-rise 0 t r x (omega arith) in
-              B .zero-above x (omega arith) ∙ sym (input-word t inputs x (past-kind t x (omega arith)) ∙ List·getD-eq-default inputs 0 {n = inputsBelow t x} (omega arith))
+              B .zero-above x (omega arith) ∙ sym (input-word t inputs x (past-kind t x (omega arith)) ∙ List·getD-eq-default inputs 0 {n = rowsOf 0 t x} (omega arith))
         ]
 
 -- ---- the results: those from row r up stand from place k up
@@ -133,11 +118,11 @@ pub result-inside : (t : List ℕ) (n r k len : ℕ) → r < n → k ≡ rowsOf 
 result-inside t n r k len l e h q = let b = row-below 8 t r n l q in omega arith
 
 -- the whole table is behind
-pub begun-all : (t inputs words : List ℕ) (n r : ℕ) → TableRight t → n ≡ size t → length inputs ≡ inputsBelow t n → r ≤ n → n ≤ r → Begun t inputs r words → envOf words ≡ firstWords t inputs
+pub begun-all : (t inputs words : List ℕ) (n r : ℕ) → TableRight t → n ≡ size t → length inputs ≡ rowsOf 0 t n → r ≤ n → n ≤ r → Begun t inputs r words → envOf words ≡ firstWords t inputs
 begun-all t inputs words n r ok e f h l B =
     let q : r ≡ n = omega arith in
     let w = right-table-has-structure t ok .words in
-    all-begun t inputs words r (omega arith) (let g = ap (inputsBelow t) q in omega arith) B
+    all-begun t inputs words r (omega arith) (let g = ap (rowsOf 0 t) q in omega arith) B
 
 pub results-start : (t : List ℕ) (env : Env) (n : ℕ) (res : List ℕ) → sets res 0 (resultsFrom (n - 0) t env 0) ≡ sets res 0 (resultsFrom n t env 0)
 results-start t env n res = let e : n - 0 ≡ n = omega arith in rw e

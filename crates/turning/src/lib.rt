@@ -7,11 +7,11 @@ ghost use lib.ListN.{length, getD, set};
 ghost use lib.Seq.{sets};
 ghost use Rattle.word.specs.Words.{condition, update, operate};
 ghost use Rattle.table.specs.Rows.{kindAt, word, size};
+ghost use Rattle.table.specs.Counted.{rowsOf};
 ghost use Rattle.table.specs.Scan.{bodyOf};
 ghost use Rattle.table.specs.Bodies.{endOf, firstOf};
 ghost use Rattle.table.specs.Right.{TableRight};
-ghost use Rattle.reading.specs.Reading.{setRow, choose, inputsBelow, firstWords, resultsFrom, turn, leave, named, nextNamed, argNamed};
-ghost use Rattle.turning.specs.Counted.{rowsOf};
+ghost use Rattle.reading.specs.Reading.{setRow, choose, firstWords, resultsFrom, turn, leave, named, nextNamed, argNamed};
 ghost use Rattle.turning.specs.Words.{envOf, Long, Names, placed, copied, Source, Aside, Copies, LoopAt, Ends, bodyAfter, noteAt, noteOf, oneMore};
 
 const INPUT: u32 = 0;
@@ -111,7 +111,7 @@ pub fn count_rows(table: &[u32], n: u32, kind: u32) -> u32
 
 // Row r's, where so many INPUTs stand before it.
 fn first_word(table: &[u32], inputs: &[u32], r: u32, before: u32) -> u32
-    requires { ⌜ (r < size (now table)) × (r < 512) × (before ≡ inputsBelow (now table) r) × (length (now inputs) ≡ inputsBelow (now table) (size (now table))) ⌝ }
+    requires { ⌜ (r < size (now table)) × (r < 512) × (before ≡ rowsOf 0 (now table) r) × (length (now inputs) ≡ rowsOf 0 (now table) (size (now table))) ⌝ }
     ensures { λ w. ⌜ w ≡ firstWords (now (table .entry)) (now (inputs .entry)) r ⌝ }
 {
     let kind = table::kind_at(table, r);
@@ -125,7 +125,7 @@ fn first_word(table: &[u32], inputs: &[u32], r: u32, before: u32) -> u32
 }
 
 pub fn first_words(table: &[u32], n: u32, inputs: &[u32]) -> [u32; 512]
-    requires { ⌜ TableRight (now table) × (n ≡ size (now table)) × (length (now inputs) ≡ inputsBelow (now table) n) ⌝ }
+    requires { ⌜ TableRight (now table) × (n ≡ size (now table)) × (length (now inputs) ≡ rowsOf 0 (now table) n) ⌝ }
     ensures { λ a. ⌜ envOf a ≡ firstWords (now (table .entry)) (now (inputs .entry)) ⌝ }
 {
     let mut words = [0u32; 512];

@@ -1,7 +1,7 @@
 use borrow.Author.Needs.{needs}
 use mathlib.Core.Path.{_≡_, ap, _∙_}
 use Rattle.turning.proofs.Beginning.{none-counted, one-counted}
-use Rattle.turning.specs.Counted.{rowsOf, rows-few}
+use Rattle.table.specs.Counted.{rowsOf, rows-few}
 use native.Mathlib.Omega.{arith}
 use Prim.Native.Nat.{_-_, _≤_}
 use Rattle.turning.proofs.count_rows.Statement.{statement}

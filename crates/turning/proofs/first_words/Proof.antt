@@ -1,6 +1,6 @@
 use Rattle.turning.proofs.Rows.{row-asked, few-rows}
-use Rattle.turning.proofs.Beginning.{Begun, none-begun, one-begun, begun-all, no-inputs, one-input, inputs-few}
-use Rattle.reading.specs.Reading.{inputsBelow}
+use Rattle.turning.proofs.Beginning.{Begun, none-begun, one-begun, begun-all, none-counted, one-counted}
+use Rattle.table.specs.Counted.{rowsOf, rows-few}
 use borrow.Author.Needs.{needs}
 use native.Mathlib.Omega.{arith}
 use mathlib.Core.Path.{_≡_, ap, _∙_, sym}
@@ -14,18 +14,18 @@ use Rattle.turning.proofs.first_word.Reads as first-word-reads
 use Rattle.turning.proofs.one_more.Reads as one-more-reads
 
 abbrev Inv-loop : tie.InvT-loop
-Inv-loop table n inputs words₀ before₀ r₀ words before r = (r ≤ n) × Begun table inputs r words × (before ≡ inputsBelow table r)
+Inv-loop table n inputs words₀ before₀ r₀ words before r = (r ≤ n) × Begun table inputs r words × (before ≡ rowsOf 0 table r)
 
 abbrev μ-loop : tie.MeasureT-loop
 μ-loop table n inputs words₀ before₀ r₀ words before r = n - r
 
 -- src/lib.rt:134:5
 loop-holds : tie.Need-loop-holds Inv-loop μ-loop
-loop-holds c = (omega arith, none-begun _ _, no-inputs _)
+loop-holds c = (omega arith, none-begun _ _, none-counted 0 _)
 
 -- src/lib.rt:135:29
 first-word-requires : tie.Need-first-word-requires Inv-loop μ-loop
-first-word-requires c κs = let q = row-asked ((c .before .before .before .before .args .table) .now) (c .before .before .before .before .pre .0) (c .before .loop .r) (omega (arith, (c .loop-test .taken), (c .before .before .before .before .pre .1))) in (q .0, q .1, (c .before .loop .inv .2), (c .before .before .before .before .pre .2) ∙ ap (inputsBelow ((c .before .before .before .before .args .table) .now)) (c .before .before .before .before .pre .1))
+first-word-requires c κs = let q = row-asked ((c .before .before .before .before .args .table) .now) (c .before .before .before .before .pre .0) (c .before .loop .r) (omega (arith, (c .loop-test .taken), (c .before .before .before .before .pre .1))) in (q .0, q .1, (c .before .loop .inv .2), (c .before .before .before .before .pre .2) ∙ ap (rowsOf 0 ((c .before .before .before .before .args .table) .now)) (c .before .before .before .before .pre .1))
 
 -- src/lib.rt:135:15
 cast-words : tie.Need-cast-words Inv-loop μ-loop
@@ -45,7 +45,7 @@ kind-at-requires c κs = row-asked _ (c .before .before .before .before .before 
 
 -- src/lib.rt:136:9
 one-more-requires : tie.Need-one-more-requires Inv-loop μ-loop
-one-more-requires c κs = let f = inputs-few ((c .before .before .before .before .before .before .args .table) .now) (c .before .before .before .loop .r) in omega (arith, (c .before .before .loop-test .taken), (c .before .before .before .before .before .before .pre .1), few-rows _ (c .before .before .before .before .before .before .pre .0), (c .before .before .before .loop .inv .2))
+one-more-requires c κs = let f = rows-few 0 ((c .before .before .before .before .before .before .args .table) .now) (c .before .before .before .loop .r) in omega (arith, (c .before .before .loop-test .taken), (c .before .before .before .before .before .before .pre .1), few-rows _ (c .before .before .before .before .before .before .pre .0), (c .before .before .before .loop .inv .2))
 
 -- src/lib.rt:137:9
 add-r : tie.Need-add-r Inv-loop μ-loop
@@ -57,7 +57,7 @@ loop-less c = omega (arith, (c .before .before .before .loop-test .taken))
 
 -- src/lib.rt:134:5
 loop-again : tie.Need-loop-again Inv-loop μ-loop
-loop-again c = (omega (arith, (c .before .before .before .loop-test .taken)), one-begun _ _ _ _ _ (omega (arith, (c .before .before .before .loop-test .taken), (c .before .before .before .before .before .before .before .pre .1), few-rows _ (c .before .before .before .before .before .before .before .pre .0))) (c .before .before .before .before .loop .inv .1) (c .before .before .first-word .ensures), one-input _ _ _ _ _ (c .before .before .before .before .loop .inv .2) (c .before .kind-at .ensures) (c .one-more .ensures))
+loop-again c = (omega (arith, (c .before .before .before .loop-test .taken)), one-begun _ _ _ _ _ (omega (arith, (c .before .before .before .loop-test .taken), (c .before .before .before .before .before .before .before .pre .1), few-rows _ (c .before .before .before .before .before .before .before .pre .0))) (c .before .before .before .before .loop .inv .1) (c .before .before .first-word .ensures), one-counted 0 _ _ _ _ _ (c .before .before .before .before .loop .inv .2) (c .before .kind-at .ensures) (c .one-more .ensures))
 
 -- src/lib.rt:127:1
 returns : tie.Need-returns Inv-loop μ-loop

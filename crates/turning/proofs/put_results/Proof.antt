@@ -1,6 +1,6 @@
 use Rattle.turning.proofs.Beginning.{none-counted, one-counted, one-result, no-results-left, result-inside, results-start}
 use Rattle.turning.proofs.Rows.{few-rows}
-use Rattle.turning.specs.Counted.{rowsOf, rows-few}
+use Rattle.table.specs.Counted.{rowsOf, rows-few}
 use Rattle.turning.specs.Words.{envOf}
 use Rattle.reading.specs.Reading.{resultsFrom}
 use lib.Seq.{sets}

@@ -1,21 +1,23 @@
 -- How many rows of a kind a table has.
--- Main names: `rowsOf`; `inputs-are-rows`, `results-are-rows`: there is an input word for each INPUT and a result for each OUT; `rows-few`, `rows-rise`, `row-below`.
+-- Main names: `rowsOf`; `none-below`, `rows-few`, `rows-rise`, `row-below`.
 -- Assumes nothing.
 use Prim.Native.Nat.{ℕ, zero, suc, _+_, _-_, _≤_, _<_}
 use mathlib.Core.Bool.{Bool, true, false, cond}
-use mathlib.Core.List.{List, [], _∷_}
-use mathlib.Core.Path.{_≡_, refl, ap, _∙_}
+use mathlib.Core.List.{List}
+use mathlib.Core.Path.{_≡_, refl, ap}
 use native.Mathlib.Omega.{arith}
 use borrow.Author.Tests.{eq-eqb}
 use lib.Dec.{eqb}
-use lib.ListN.{length}
-use Rattle.table.specs.Rows.{kindAt, word, size}
-use Rattle.reading.specs.Reading.{Env, inputsBelow, resultsFrom}
+use Rattle.table.specs.Rows.{kindAt}
 
 -- how many of the rows below r are of this kind
 unfoldable pub rowsOf : ℕ → List ℕ → ℕ → ℕ
 rowsOf kind t zero = 0
 rowsOf kind t (suc r) = cond (eqb (kindAt t r) kind) (suc (rowsOf kind t r)) (rowsOf kind t r)
+
+pub none-below : (kind : ℕ) (t : List ℕ) → rowsOf kind t 0 ≡ 0
+unfolding rowsOf
+none-below kind t = refl
 
 pub rows-few : (kind : ℕ) (t : List ℕ) (r : ℕ) → rowsOf kind t r ≤ r
 unfolding rowsOf
@@ -45,31 +47,3 @@ one-row kind t r k = rw (eq-eqb (kindAt t r) kind k)
 -- a row of the kind has fewer of them before it than there are
 pub row-below : (kind : ℕ) (t : List ℕ) (r n : ℕ) → r < n → kindAt t r ≡ kind → rowsOf kind t r < rowsOf kind t n
 row-below kind t r n l k = let g = rows-rise kind t (suc r) n l in let q = one-row kind t r k in omega arith
-
-pub inputs-are-rows : (t : List ℕ) (r : ℕ) → inputsBelow t r ≡ rowsOf 0 t r
-unfolding inputsBelow rowsOf
-inputs-are-rows t zero = refl
-inputs-are-rows t (suc r) = rw (inputs-are-rows t r)
-
--- the rows below r, and the results from r up
-results-behind : (t : List ℕ) (env : Env) (m r : ℕ) → rowsOf 8 t r + length (resultsFrom m t env r) ≡ rowsOf 8 t (r + m)
-unfolding rowsOf resultsFrom
-results-behind t env zero r = let e : r + 0 ≡ r = omega arith in rw e (omega arith)
-results-behind t env (suc m) r = let e : r + suc m ≡ suc r + m = omega arith in rw e (go (eqb (kindAt t r) 8) (results-behind t env m (suc r)))
-  where
-    go : (b : Bool) → cond b (suc (rowsOf 8 t r)) (rowsOf 8 t r) + length (resultsFrom m t env (suc r)) ≡ rowsOf 8 t (suc r + m)
-        → rowsOf 8 t r + length (cond b (env (word t r 1) ∷ resultsFrom m t env (suc r)) (resultsFrom m t env (suc r))) ≡ rowsOf 8 t (suc r + m)
-    go true h = omega arith
-    go false h = h
-
-none-below : (kind : ℕ) (t : List ℕ) → rowsOf kind t 0 ≡ 0
-unfolding rowsOf
-none-below kind t = refl
-
-pub results-are-rows : (t : List ℕ) (env : Env) → length (resultsFrom (size t) t env 0) ≡ rowsOf 8 t (size t)
-results-are-rows t env =
-    let e = results-behind t env (size t) 0 in
-    let z = none-below 8 t in
-    let f : 0 + size t ≡ size t = omega arith in
-    let g = ap (rowsOf 8 t) f in
-    omega arith
