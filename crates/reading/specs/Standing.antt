@@ -93,7 +93,7 @@ module _ (t : List ℕ) (ok : TableRight t) where
   S = right-table-has-structure t ok
 
   -- the loops around an END
-  end-loops : (r : ℕ) → r < size t → kindAt t r ≡ 7 → loopsAt t r ≡ bodyOf t r ∷ loopsAt t (bodyOf t r)
+  pub end-loops : (r : ℕ) → r < size t → kindAt t r ≡ 7 → loopsAt t r ≡ bodyOf t r ∷ loopsAt t (bodyOf t r)
   end-loops r l k = loops-around t ok r (omega arith) (λ e. let b = S .end-of r l k .1 in omega arith)
 
   pub end-opened : (r : ℕ) (os : List Opening) → r < size t → kindAt t r ≡ 7 → Standing t r os → Opened (bodyOf t r) os

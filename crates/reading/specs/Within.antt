@@ -75,7 +75,7 @@ unfolding turnsMade
 append-made [] ps = omega arith
 append-made (o ∷ os) ps = let e = append-made os ps in omega arith
 
-reverse-made : (os : List Opening) → turnsMade (reverse os) ≡ turnsMade os
+pub reverse-made : (os : List Opening) → turnsMade (reverse os) ≡ turnsMade os
 unfolding turnsMade
 reverse-made [] = refl
 reverse-made (o ∷ os) =
