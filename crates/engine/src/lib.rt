@@ -15,12 +15,7 @@ pub enum Plain {
     Spent(u64),
 }
 
-pub fn read_plain(
-    table: &[u32],
-    inputs: &[u32],
-    results: &mut [u32],
-    allowance: u64,
-) -> Plain {
+pub fn read_plain(table: &[u32], inputs: &[u32], results: &mut [u32], allowance: u64) -> Plain {
     let checked = table::check_rows(table);
     if checked.number != 0 {
         return Plain::Refused(checked.number, checked.row);
