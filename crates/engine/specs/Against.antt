@@ -3,6 +3,7 @@
 --
 --   Fit                               the table passes 1 to 9, there is a word for each INPUT, and a lent word for each OUT
 --   fit-is-not-refused, not-refused-is-fit        nothing is refused exactly there
+--   resultsIn                         the words that stand where the results are written
 --   ended-is-the-reading              where it answers ended with T turns, the reading ends with T turns, T are allowed, and its results stand first in the
 --                                     lent words, with the rest as before
 --   the-reading-is-ended              and back: where the reading ends with as many turns as allowed or fewer
@@ -25,8 +26,8 @@ use native.Mathlib.Omega.{arith}
 use native.Mathlib.Decide.{ℕ-discrete}
 use borrow.Author.Tests.{eq-eqb, ne-eqb, eqb-true, le-leb, leb-true}
 use lib.Dec.{eqb, leb}
-use lib.ListN.{length, drop}
-use lib.Seq.{sets, sets-eq}
+use lib.ListN.{length, take, drop}
+use lib.Seq.{sets, sets-eq, take-at}
 use Rattle.table.specs.Rows.{size, INPUT, OUT}
 use Rattle.table.specs.Counted.{rowsOf}
 use Rattle.table.specs.Check.{Refusal, answer, tableRefusal}
@@ -75,6 +76,10 @@ module _ (t inputs : List ℕ) (lent : ℕ) where
 
 -- ---- what is answered
 
+-- the words that stand where the results are written: first, as many as OUT rows
+abbrev pub resultsIn : List ℕ → List ℕ → List ℕ
+resultsIn t after = take (rowsOf OUT t (size t)) after
+
 -- the reading ends with T turns, and its results stand first in the lent words
 pub record EndsSo (t inputs lent : List ℕ) (A T : ℕ) (after : List ℕ) : Type 0 where
   pub fit : Fit t inputs (length lent)
@@ -86,6 +91,7 @@ pub record EndsSo (t inputs lent : List ℕ) (A T : ℕ) (after : List ℕ) : Ty
   pub one-each : length results ≡ rowsOf OUT t (size t)
   pub stored : after ≡ sets lent 0 results
   pub first : after ≡ results ++ drop (length results) lent
+  pub written : resultsIn t after ≡ results
 
 -- it meets a zero step at FOR row L with T turns, and the lent words stay
 pub record FaultsSo (t inputs lent : List ℕ) (A L T : ℕ) (after : List ℕ) : Type 0 where
@@ -195,6 +201,7 @@ module _ (t inputs lent : List ℕ) (A : ℕ) where
             one-each = ended-has-a-word-each t inputs rs os (x .0);
             stored = l;
             first = l ∙ results-first t inputs lent rs os (x .0) (f .room);
+            written = ap (resultsIn t) (l ∙ results-first t inputs lent rs os (x .0) (f .room)) ∙ take-at rs (drop (length rs) lent) (rowsOf OUT t (size t)) (ended-has-a-word-each t inputs rs os (x .0));
           }
 
   pub the-reading-is-ended : Fit t inputs (length lent) → (results : List ℕ) (openings : List Opening) → Reads t inputs (ended results openings) → turnsMade openings ≤ A

@@ -2,3 +2,4 @@
 pub mod Answers
 pub mod Results
 pub mod Against
+pub mod Cases
