@@ -9,7 +9,7 @@
 --   the-reading-is-ended              and back: where the reading ends with as many turns as allowed or fewer
 --   zero-step-is-the-reading, the-reading-is-a-zero-step      the same of a zero step at a row; the lent words stay
 --   spent-is-the-rest                 where it is spent, all turns allowed are made and one more is due, and every outcome of the reading has more turns
---   the-rest-is-spent                 and back; so too-few-are-spent, endless-is-spent
+--   the-rest-is-spent                 and back; so due-turns-are-spent, too-few-are-spent, endless-is-spent
 --   refused-is-refused, the-refusal-is-answered       a refusal, with its number and row; the lent words stay
 --   plain-number, plain-refusal       the answer by number
 --   some-read, one-read               each call has an answer, and one only
@@ -284,6 +284,21 @@ module _ (t inputs lent : List ℕ) (A : ℕ) where
       go (is-fault n L os w e k) = absurd (early (zeroStep L os) w)
       go (is-spent n w e k) = (e, k)
 
+  -- so it is where the turns allowed are made and one more is due
+  pub due-turns-are-spent : Fit t inputs (length lent) → Due t A (begin t inputs) → (r : Plain) (after : List ℕ) → PlainAnswer t inputs lent A r after → (r ≡ Spent A) × (after ≡ lent)
+  unfolding read
+  due-turns-are-spent f d = let x = due-is-spent t A (begin t inputs) d in the-rest-is-spent f (λ o y. spent-needs-more t A (x .0) (y .steps) (begin t inputs) o (x .1) (y .comes))
+
+  pub too-few-are-spent : Fit t inputs (length lent) → (o : Outcome) → Reads t inputs o → A < turnsMade (openingsOf o)
+      → (r : Plain) (after : List ℕ) → PlainAnswer t inputs lent A r after → (r ≡ Spent A) × (after ≡ lent)
+  too-few-are-spent f o x l =
+      the-rest-is-spent f (λ q y. let e = ap (λ (z : Outcome). turnsMade (openingsOf z)) (one-outcome t inputs o q x y) in omega arith)
+
+  pub endless-is-spent : Fit t inputs (length lent) → ((k : ℕ) → read k t inputs ≡ none)
+      → (r : Plain) (after : List ℕ) → PlainAnswer t inputs lent A r after → (r ≡ Spent A) × (after ≡ lent)
+  endless-is-spent f endless =
+      the-rest-is-spent f (λ o x. let e : none ≡ some o = sym (endless (x .steps)) ∙ x .comes in let z : _≡_ {A = ℕ} 0 1 = cc in absurd (omega arith))
+
   -- REFUSED
   pub refused-is-refused : (n row : ℕ) (after : List ℕ) → PlainAnswer t inputs lent A (Refused n row) after
       → (plainRefusal t inputs (length lent) ≡ answer n row) × (n ≢ 0) × (after ≡ lent)
@@ -338,16 +353,6 @@ module _ (t inputs lent : List ℕ) (A : ℕ) where
 
   pub one-read : (r q : Plain) (after left : List ℕ) → PlainAnswer t inputs lent A r after → PlainAnswer t inputs lent A q left → (r ≡ q) × (after ≡ left)
   one-read r q after left a b = (a .answer ∙ sym (b .answer), a .lent-words ∙ sym (b .lent-words))
-
-  pub too-few-are-spent : Fit t inputs (length lent) → (o : Outcome) → Reads t inputs o → A < turnsMade (openingsOf o)
-      → (r : Plain) (after : List ℕ) → PlainAnswer t inputs lent A r after → (r ≡ Spent A) × (after ≡ lent)
-  too-few-are-spent f o x l =
-      the-rest-is-spent f (λ q y. let e = ap (λ (z : Outcome). turnsMade (openingsOf z)) (one-outcome t inputs o q x y) in omega arith)
-
-  pub endless-is-spent : Fit t inputs (length lent) → ((k : ℕ) → read k t inputs ≡ none)
-      → (r : Plain) (after : List ℕ) → PlainAnswer t inputs lent A r after → (r ≡ Spent A) × (after ≡ lent)
-  endless-is-spent f endless =
-      the-rest-is-spent f (λ o x. let e : none ≡ some o = sym (endless (x .steps)) ∙ x .comes in let z : _≡_ {A = ℕ} 0 1 = cc in absurd (omega arith))
 
 -- ---- a larger allowance
 module _ (t inputs lent : List ℕ) (A B : ℕ) (more : A ≤ B) where
