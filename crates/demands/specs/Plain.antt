@@ -18,19 +18,19 @@
 --
 -- Assumes nothing.
 use Prim.{Unit, tt}
-use Prim.Native.Nat.{ℕ, zero, suc, _+_, _≤_, _<_}
+use Prim.Native.Nat.{ℕ, _≤_, _<_}
 use mathlib.Core.Path.{_≡_, refl, sym, ap, ap₂, _∙_, subst}
-use mathlib.Core.Logic.{_⊎_, inl, inr, _≢_}
-use mathlib.Core.Bool.{Bool, true}
+use mathlib.Core.Logic.{_⊎_, inl, inr}
+use mathlib.Core.Bool.{true}
 use mathlib.Core.Option.{Option, none, some}
 use mathlib.Core.List.{List, [], _∷_, _++_}
 use native.Mathlib.Omega.{arith}
 use native.Mathlib.Decide.{decLe}
 use lib.ListN.{length, drop}
 use Rattle.state.specs.Legal.{rightLength}
-use Rattle.state.specs.Run.{SPENT, COMPLETE, ZERO-STEP}
+use Rattle.state.specs.Run.{SPENT, ZERO-STEP}
 use Rattle.machine.specs.Entries.{loadRefusal, loadState}
-use Rattle.run.specs.Entry.{orderBelow, runState, runAnswer, ranNumber, ranOutcome}
+use Rattle.run.specs.Entry.{orderBelow, runState, runAnswer, ranOutcome}
 use Rattle.run.specs.declared.Ran.{Ran}
 use Rattle.run.specs.declared.Ran.the-variants.{Complete, Stranded, Refused as RunRefused, ZeroStep as RunZeroStep, Spent as RunSpent}
 use Rattle.confluence.specs.Statements.{Fires, AtRest}

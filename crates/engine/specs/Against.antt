@@ -16,10 +16,10 @@
 --   more-turns-change-no-end, more-turns-change-no-zero-step, turns-change-no-refusal         what is not spent stays the same with a larger allowance
 --
 -- Assumes nothing.
-use Prim.Native.Nat.{ℕ, zero, suc, _*_, _+_, _<_, _≤_}
+use Prim.Native.Nat.{ℕ, suc, _*_, _+_, _<_, _≤_}
 use mathlib.Core.Bool.{Bool, true, false, cond}
 use mathlib.Core.Logic.{_≢_}
-use mathlib.Core.Option.{Option, none, some}
+use mathlib.Core.Option.{none, some}
 use mathlib.Core.List.{List, _++_}
 use mathlib.Core.Path.{_≡_, refl, sym, ap, _∙_, subst}
 use native.Mathlib.Omega.{arith}
@@ -31,10 +31,10 @@ use lib.Seq.{sets, sets-eq, take-at}
 use Rattle.table.specs.Rows.{size, INPUT, OUT}
 use Rattle.table.specs.Counted.{rowsOf}
 use Rattle.table.specs.Check.{Refusal, answer, tableRefusal}
-use Rattle.table.specs.Right.{TableRight, number-0-is-right}
-use Rattle.reading.specs.Reading.{Opening, State, Outcome, ended, zeroStep, begin, readFrom, read}
+use Rattle.table.specs.Right.{number-0-is-right}
+use Rattle.reading.specs.Reading.{Opening, Outcome, ended, zeroStep, begin, read}
 use Rattle.reading.specs.Outcome.{Reads, one-outcome}
-use Rattle.reading.specs.Within.{turnsMade, Within, comes, spent, readWithin, openingsOf, one-within, within-is-read, read-is-within, spent-needs-more, Due, spent-is-all, due-is-spent}
+use Rattle.reading.specs.Within.{turnsMade, Within, comes, spent, openingsOf, one-within, within-is-read, read-is-within, spent-needs-more, Due, spent-is-all, due-is-spent}
 use Rattle.reading.specs.Standing.{walk-is-bounded}
 use Rattle.engine.specs.Results.{ended-has-a-word-each}
 use Rattle.engine.specs.Answers.{ROOM, INPUTS, plainRefusal, plainWithin, toldBy, lentBy, plainAnswer, plainLent, PlainAnswer, plainNumber, plainRow, plainOutcome, plainTurns}
