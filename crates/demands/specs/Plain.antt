@@ -7,18 +7,20 @@
 --   read-inputs-are-loaded, read-tables-are-called        there are such calls: `load` takes the inputs that read_plain takes
 --   complete-calls-mean-ended             and back: where such calls are answered COMPLETE there is a T; read_plain is ended with T turns and writes the words
 --                                         that the calls left where T or more are allowed, and spent where fewer are
+--   rest-means-an-answer                  so where any order rests: ended with the words that it left, or the zero step that it waits with
 --   called-is-not-refused                 read_plain refuses no table and inputs that such calls took, if it is lent a word for each OUT row
 --   zero-step-means-faulted-calls         where it answers a zero step at row L, they are answered SPENT, or ZERO STEP with the STREAM of L waiting
+--   zero-step-means-faulted-orders        and so is every order that rests
 --   zero-step-calls-mean-a-zero-step      and back, where they are answered ZERO STEP
 --   two-answers-agree                     ended and COMPLETE: the same words
 --   two-answers-never-differ              what the two may be answered together, case by case
 --   always-spent-never-rests, always-spent-calls-are-spent        where read_plain is spent with every allowance, no order rests and all such calls are SPENT
---   an-endless-loop-is-always-spent       a loop for ever: read_plain is spent with every allowance, and so are such calls
+--   an-endless-loop-is-always-spent, an-endless-loop-runs-for-ever        a loop for ever: read_plain is spent with every allowance, and so are such calls
 --   the-sum-is-one                        the sum table with 5: whatever calls are answered COMPLETE leave the 10 that read_plain writes
 --
 -- Assumes nothing.
 use Prim.{Unit, tt}
-use Prim.Native.Nat.{ℕ, _≤_, _<_}
+use Prim.Native.Nat.{ℕ, suc, _*_, _≤_, _<_}
 use mathlib.Core.Path.{_≡_, refl, sym, ap, ap₂, _∙_, subst}
 use mathlib.Core.Logic.{_⊎_, inl, inr}
 use mathlib.Core.Bool.{true}
@@ -28,7 +30,7 @@ use native.Mathlib.Omega.{arith}
 use native.Mathlib.Decide.{decLe}
 use lib.ListN.{length, drop}
 use Rattle.state.specs.Legal.{rightLength}
-use Rattle.state.specs.Run.{SPENT, ZERO-STEP}
+use Rattle.state.specs.Run.{SPENT, ZERO-STEP, outcome}
 use Rattle.machine.specs.Entries.{loadRefusal, loadState}
 use Rattle.run.specs.Entry.{orderBelow, runState, runAnswer, ranOutcome}
 use Rattle.run.specs.declared.Ran.{Ran}
@@ -47,10 +49,10 @@ use Rattle.engine.specs.Cases.{five-turns-end}
 use Rattle.engine.specs.declared.Plain.{Plain}
 use Rattle.engine.specs.declared.Plain.the-variants.{Refused, Ended, ZeroStep, Spent}
 use Rattle.lowered.specs.Lower.{loweredWords}
-use Rattle.lowered.specs.Room.{lowerAnswer}
+use Rattle.lowered.specs.Room.{checkAnswer, lowerAnswer}
 use Rattle.laid.specs.Answers.{passed-check}
 use Rattle.faithful.specs.Endings.{AsRead}
-use Rattle.faithful.specs.Statements.{loadedTable, Faithful, EndsAsRead, FaultNamed, lowered-table-means-its-reading, endless-reading-never-rests}
+use Rattle.faithful.specs.Statements.{loadedTable, Faithful, EndsAsRead, FaultNamed, lowered-table-means-its-reading, zero-step-is-named, rest-bounds-the-reading, endless-reading-never-rests}
 use Rattle.faithful.specs.NotIdle.{stayTable, stay-is-checked, stay-reads-for-ever}
 use Rattle.demands.specs.Rehearsal.{Graph, lowered-is-checked, inputs-are-loaded}
 use Rattle.demands.specs.Calls.{Called, CallsAsRead, FireCalls, NoneReady, calls-go-through, calls-rehearse-the-reading, calls-meet-the-fault, complete-calls-read, zero-step-calls-read, calls-are-never-stranded, calls-are-not-refused, called-is-checked, called-with-the-inputs, fire-calls-rehearse-the-reading}
@@ -137,6 +139,21 @@ module _ (t inputs : List ℕ) where
   called-is-not-refused room l lent s list a q end c =
       record { rows = passed-check t (called-is-checked t inputs lent s list a q end c); one-each = called-with-the-inputs t inputs lent s list a q end c; room = l }
 
+  -- read_plain on a reading that ends with the words that an order or a run has left
+  ends-with : (words : List ℕ) (openings : List Opening) → Reads t inputs (ended words openings) → (end : List ℕ) → AsRead t words end
+      → (room : List ℕ) → Fit t inputs (length room) → (A : ℕ) (r : Plain) (after : List ℕ) → PlainAnswer t inputs room A r after → turnsMade openings ≤ A
+      → EndsWith t room end (turnsMade openings) r after
+  ends-with words openings x end left room f A r after p l =
+      let y = the-reading-is-ended t inputs room A f words openings x l r after p in
+      let z = ended-is-the-reading t inputs room A (turnsMade openings) after (subst (λ (v : Plain). PlainAnswer t inputs room A v after) (y .0) p) in
+      let o = one-outcome t inputs (ended words openings) (ended (z .results) (z .openings)) x (z .reads) in
+      let k : words ≡ z .results = cc in
+      record {
+        answer = y .0;
+        words = subst (λ (v : List ℕ). AsRead t v end) (k ∙ sym (z .written)) left;
+        rest = z .first ∙ ap₂ {C = List ℕ} (λ (u : List ℕ) (v : ℕ). u ++ drop v room) (sym (z .written)) (z .one-each);
+      }
+
   pub complete-calls-mean-ended : (lent s list : List ℕ) (a F : ℕ) (q : Ran) (end : List ℕ) → Called t lent inputs s list a q end → q ≡ Complete F
       → (T : ℕ) × ((room : List ℕ) → rowsOf OUT t (size t) ≤ length room → (A : ℕ) (r : Plain) (after : List ℕ) → PlainAnswer t inputs room A r after
       → (T ≤ A → EndsWith t room end T r after) × (A < T → (r ≡ Spent A) × (after ≡ room)))
@@ -145,24 +162,41 @@ module _ (t inputs : List ℕ) where
         turnsMade (y .1),
         λ room l A r after p.
             let f = called-is-not-refused room l lent s list a q end c in (
-              λ h.
-                  let x = the-reading-is-ended t inputs room A f (y .0) (y .1) (y .2) h r after p in
-                  let z = ended-is-the-reading t inputs room A (turnsMade (y .1)) after (subst (λ (v : Plain). PlainAnswer t inputs room A v after) (x .0) p) in
-                  let o = one-outcome t inputs (ended (y .0) (y .1)) (ended (z .results) (z .openings)) (y .2) (z .reads) in
-                  let k : y .0 ≡ z .results = cc in
-                  record {
-                    answer = x .0;
-                    words = subst (λ (v : List ℕ). AsRead t v end) (k ∙ sym (z .written)) (y .3);
-                    rest = z .first ∙ ap₂ {C = List ℕ} (λ (u : List ℕ) (v : ℕ). u ++ drop v room) (sym (z .written)) (z .one-each);
-                  },
+              ends-with (y .0) (y .1) (y .2) end (y .3) room f A r after p,
               λ h. too-few-are-spent t inputs room A f (ended (y .0) (y .1)) (y .2) h r after p,
             ),
+      )
+
+  -- an order that rests: ended with the words that it left, or a zero step that it waits with
+  pub rest-means-an-answer : (lent : List ℕ) → lowerAnswer t (length lent) .number ≡ 0 → (order u : List ℕ) → Fires (loweredWords t) order (loadedTable t inputs) u → AtRest (loweredWords t) u
+      → (T : ℕ) × ((room : List ℕ) → Fit t inputs (length room) → (A : ℕ) (r : Plain) (after : List ℕ) → PlainAnswer t inputs room A r after → T ≤ A
+      → EndsWith t room u T r after ⊎ ((L : ℕ) × (r ≡ ZeroStep L T) × FaultNamed t L u (outcome (loweredWords t) u)))
+  rest-means-an-answer lent w order u q h =
+      let k = lowered-is-checked t lent w in
+      let x = rest-bounds-the-reading t k inputs order u q h in
+      go k (x .0) (record { steps = suc (length order) * suc (size t); comes = x .1 })
+    where
+      go : checkAnswer t .number ≡ 0 → (o : Outcome) → Reads t inputs o
+          → (T : ℕ) × ((room : List ℕ) → Fit t inputs (length room) → (A : ℕ) (r : Plain) (after : List ℕ) → PlainAnswer t inputs room A r after → T ≤ A
+          → EndsWith t room u T r after ⊎ ((L : ℕ) × (r ≡ ZeroStep L T) × FaultNamed t L u (outcome (loweredWords t) u)))
+      go k (ended words openings) x = (
+        turnsMade openings,
+        λ room f A r after p l. inl (ends-with words openings x u (lowered-table-means-its-reading t k inputs words openings x .1 order u q .ends h .state) room f A r after p l),
+      )
+      go k (zeroStep L openings) x = (
+        turnsMade openings,
+        λ room f A r after p l. inr (L, the-reading-is-a-zero-step t inputs room A f L openings x l r after p .0, zero-step-is-named t k inputs L openings x order u q h),
       )
 
   -- ---- a zero step
   pub zero-step-means-faulted-calls : (room : List ℕ) (A L T : ℕ) (after : List ℕ) → PlainAnswer t inputs room A (ZeroStep L T) after
       → (lent s list : List ℕ) (a : ℕ) (q : Ran) (end : List ℕ) → Called t lent inputs s list a q end → (ranOutcome q .answer ≡ SPENT) ⊎ FaultNamed t L end (ranOutcome q)
   zero-step-means-faulted-calls room A L T after p = let e = zero-step-is-the-reading t inputs room A L T after p in calls-meet-the-fault t inputs L (e .openings) (e .reads)
+
+  pub zero-step-means-faulted-orders : (room : List ℕ) (A L T : ℕ) (after : List ℕ) → PlainAnswer t inputs room A (ZeroStep L T) after → (lent : List ℕ) → lowerAnswer t (length lent) .number ≡ 0
+      → (order u : List ℕ) → Fires (loweredWords t) order (loadedTable t inputs) u → AtRest (loweredWords t) u → FaultNamed t L u (outcome (loweredWords t) u)
+  zero-step-means-faulted-orders room A L T after p lent w =
+      let e = zero-step-is-the-reading t inputs room A L T after p in zero-step-is-named t (lowered-is-checked t lent w) inputs L (e .openings) (e .reads)
 
   pub zero-step-calls-mean-a-zero-step : (lent s list : List ℕ) (a F i : ℕ) (q : Ran) (end : List ℕ) → Called t lent inputs s list a q end → q ≡ RunZeroStep F i
       → (L : ℕ) × (T : ℕ) × FaultNamed t L end (ranOutcome q)

@@ -11,7 +11,7 @@
 --   spent-is-the-rest                 where it is spent, all turns allowed are made and one more is due, and every outcome of the reading has more turns
 --   the-rest-is-spent                 and back; so due-turns-are-spent, too-few-are-spent, endless-is-spent
 --   refused-is-refused, the-refusal-is-answered       a refusal, with its number and row; the lent words stay
---   plain-number, plain-refusal       the answer by number
+--   answer-number, plain-number, plain-refusal        the answer by number
 --   some-read, one-read               each call has an answer, and one only
 --   more-turns-change-no-end, more-turns-change-no-zero-step, turns-change-no-refusal         what is not spent stays the same with a larger allowance
 --
@@ -19,7 +19,7 @@
 use Prim.Native.Nat.{ℕ, suc, _*_, _+_, _<_, _≤_}
 use mathlib.Core.Bool.{Bool, true, false, cond}
 use mathlib.Core.Logic.{_≢_}
-use mathlib.Core.Option.{none, some}
+use mathlib.Core.Option.{Option, none, some}
 use mathlib.Core.List.{List, _++_}
 use mathlib.Core.Path.{_≡_, refl, sym, ap, _∙_, subst}
 use native.Mathlib.Omega.{arith}
@@ -73,6 +73,24 @@ module _ (t inputs : List ℕ) (lent : ℕ) where
           → cond a (words (eqb (length inputs) (rowsOf INPUT t (size t))) (leb (rowsOf OUT t (size t)) lent)) (tableRefusal t) .number ≡ 0 → Fit t inputs lent
       rows true e h = inputs-given (eqb-true (tableRefusal t .number) 0 e) (eqb (length inputs) (rowsOf INPUT t (size t))) refl h
       rows false e h = let z : _≡_ {A = Bool} true false = sym (eq-eqb (tableRefusal t .number) 0 h) ∙ e in let y : _≡_ {A = ℕ} 0 1 = cc in absurd (omega arith)
+
+-- ---- the answer by number
+module _ (t inputs : List ℕ) (lent A : ℕ) where
+  told-number : (w : Option Within) → plainNumber (toldBy A w) ≡ 0
+  told-number none = refl
+  told-number (some spent) = refl
+  told-number (some (comes (ended rs os))) = refl
+  told-number (some (comes (zeroStep L os))) = refl
+
+  -- the refusal's, and 0 exactly where nothing is refused
+  pub answer-number : plainNumber (plainAnswer t inputs lent A) ≡ plainRefusal t inputs lent .number
+  unfolding plainAnswer
+  answer-number = go (eqb (plainRefusal t inputs lent .number) 0) refl
+    where
+      go : (b : Bool) → eqb (plainRefusal t inputs lent .number) 0 ≡ b
+          → plainNumber (cond b (toldBy A (plainWithin t inputs A)) (Refused (plainRefusal t inputs lent .number) (plainRefusal t inputs lent .row))) ≡ plainRefusal t inputs lent .number
+      go true e = told-number (plainWithin t inputs A) ∙ sym (eqb-true (plainRefusal t inputs lent .number) 0 e)
+      go false e = refl
 
 -- ---- what is answered
 
@@ -326,15 +344,9 @@ module _ (t inputs lent : List ℕ) (A : ℕ) where
       go (is-fault m L os w e l) = absurd (z (sym number-is ∙ m))
       go (is-spent m w e l) = absurd (z (sym number-is ∙ m))
 
-  -- by number: 0 exactly where nothing is refused
+  -- by number: the refusal's, and 0 exactly where nothing is refused
   pub plain-number : (r : Plain) (after : List ℕ) → PlainAnswer t inputs lent A r after → plainNumber r ≡ plainRefusal t inputs (length lent) .number
-  plain-number r after p = go (answered r after p)
-    where
-      go : Answered r after → plainNumber r ≡ refusal .number
-      go (is-refused m e l) = ap plainNumber e
-      go (is-ended m rs os w e l) = ap plainNumber e ∙ sym m
-      go (is-fault m L os w e l) = ap plainNumber e ∙ sym m
-      go (is-spent m w e l) = ap plainNumber e ∙ sym m
+  plain-number r after p = ap plainNumber (p .answer) ∙ answer-number t inputs (length lent) A
 
   -- and in a refusal its row, with 0 for outcome and turns
   pub plain-refusal : (r : Plain) (after : List ℕ) → PlainAnswer t inputs lent A r after → plainRefusal t inputs (length lent) .number ≢ 0
