@@ -50,7 +50,7 @@ use Rattle.lowered.specs.Room.{checkAnswer, lowerAnswer, lentAfter}
 use Rattle.lowering.specs.Answers.{LowerAnswer}
 use Rattle.faithful.specs.Endings.{AsRead}
 use Rattle.faithful.specs.Statements.{EndsAsRead, ConditionsTold, FaultNamed, loadedTable, lowered-table-means-its-reading}
-use Rattle.demands.specs.Rehearsal.{Graph, graph-is-lowered, lowered-is-checked, only-the-list-is-refused, loaded-is, rehearsal-is-the-reading, rehearsal-meets-the-fault, complete-is-the-reading, zero-step-is-the-reading, run-is-never-stranded, run-is-not-refused, as-many-inputs}
+use Rattle.demands.specs.Rehearsal.{Graph, graph-is-lowered, lowered-is-checked, only-the-list-is-refused, loaded-is, rehearsal-is-the-reading, rehearsal-meets-the-fault, complete-is-the-reading, zero-step-run-is-the-reading, run-is-never-stranded, run-is-not-refused, as-many-inputs}
 
 pub record Called (t lent inputs s list : List ℕ) (a : ℕ) (q : Ran) (end : List ℕ) : Type 0 where
   pub row : ℕ
@@ -148,7 +148,7 @@ module _ (t inputs : List ℕ) where
   pub zero-step-calls-read : (lent s list : List ℕ) (a F i : ℕ) (q : Ran) (end : List ℕ) → Called t lent inputs s list a q end → q ≡ ZeroStep F i
       → (L : ℕ) × (openings : List Opening) × Reads t inputs (zeroStep L openings) × FaultNamed t L end (ranOutcome q)
   zero-step-calls-read lent s list a F i q end c e =
-      let x = zero-step-is-the-reading t inputs lent (written-by t lent inputs s list a q end c) s list a (load-passes t lent inputs s list a q end c) (run-passes t lent inputs s list a q end c) F i
+      let x = zero-step-run-is-the-reading t inputs lent (written-by t lent inputs s list a q end c) s list a (load-passes t lent inputs s list a q end c) (run-passes t lent inputs s list a q end c) F i
       (sym (answered t lent inputs s list a q end c) ∙ e) in
       (x .0, x .1, x .2, named (x .0) (calls-meet-the-fault (x .0) (x .1) (x .2) lent s list a q end c))
     where

@@ -16,7 +16,7 @@
 --   two-answers-never-differ              what the two may be answered together, case by case
 --   always-spent-never-rests, always-spent-calls-are-spent        where read_plain is spent with every allowance, no order rests and all such calls are SPENT
 --   an-endless-loop-is-always-spent, an-endless-loop-runs-for-ever        a loop for ever: read_plain is spent with every allowance, and so are such calls
---   the-sum-is-one                        the sum table with 5: whatever calls are answered COMPLETE leave the 10 that read_plain writes
+--   both-sum-to-ten                        the sum table with 5: whatever calls are answered COMPLETE leave the 10 that read_plain writes
 --
 -- Assumes nothing.
 use Prim.{Unit, tt}
@@ -87,8 +87,8 @@ module _ (t inputs : List ℕ) where
   -- ---- where read_plain is ended
   module _ (room : List ℕ) (A T : ℕ) (after : List ℕ) (p : PlainAnswer t inputs room A (Ended T) after) where
     -- the reading ends with the words that are written
-    pub written-is-read : (openings : List Opening) × (turnsMade openings ≡ T) × Reads t inputs (ended (resultsIn t after) openings)
-    written-is-read =
+    pub written-words-are-read : (openings : List Opening) × (turnsMade openings ≡ T) × Reads t inputs (ended (resultsIn t after) openings)
+    written-words-are-read =
         let e = ended-is-the-reading t inputs room A T after p in
         (e .openings, e .turns, subst (λ (x : List ℕ). Reads t inputs (ended x (e .openings))) (sym (e .written)) (e .reads))
 
@@ -96,7 +96,7 @@ module _ (t inputs : List ℕ) where
         → (openings : List Opening) × (F : ℕ) × (turnsMade openings ≡ T)
         × ((order u : List ℕ) → Fires (loweredWords t) order (loadedTable t inputs) u → Faithful t inputs (resultsIn t after) openings F order u)
     ended-means-every-order-rests lent w =
-        let e = written-is-read in
+        let e = written-words-are-read in
         let m = lowered-table-means-its-reading t (lowered-is-checked t lent w) inputs (resultsIn t after) (e .0) (e .2) in
         (e .0, m .0, e .1, m .1)
 
@@ -104,21 +104,21 @@ module _ (t inputs : List ℕ) where
         × ((lent s : List ℕ) → lowerAnswer t (length lent) .number ≡ 0 → loadRefusal (Graph t lent) inputs s ≡ 0 → (order u : List ℕ) → FireCalls (Graph t lent) order (loadState (Graph t lent) inputs s) u
         → (length order ≤ F) × (NoneReady (Graph t lent) u → EndsAsRead t inputs (resultsIn t after) openings F order u))
     ended-means-every-order-of-calls =
-        let e = written-is-read in
+        let e = written-words-are-read in
         let m = fire-calls-rehearse-the-reading t inputs (resultsIn t after) (e .0) (e .2) in
         (e .0, m .0, e .1, m .1)
 
     pub ended-means-complete-calls : (openings : List Opening) × (F : ℕ) × (turnsMade openings ≡ T)
         × ((lent s list : List ℕ) (a : ℕ) (q : Ran) (end : List ℕ) → Called t lent inputs s list a q end → F ≤ a → CallsAsRead t inputs (resultsIn t after) openings F list a q end)
     ended-means-complete-calls =
-        let e = written-is-read in
+        let e = written-words-are-read in
         let m = calls-rehearse-the-reading t inputs (resultsIn t after) (e .0) (e .2) in
         (e .0, m .0, e .1, m .1)
 
     -- ENDED AND COMPLETE
     pub two-answers-agree : (lent s list : List ℕ) (a F : ℕ) (q : Ran) (end : List ℕ) → Called t lent inputs s list a q end → q ≡ Complete F → AsRead t (resultsIn t after) end
     two-answers-agree lent s list a F q end c e =
-        let x = written-is-read in
+        let x = written-words-are-read in
         let y = complete-calls-read t inputs lent s list a F q end c e in
         let o = one-outcome t inputs (ended (y .0) (y .1)) (ended (resultsIn t after) (x .0)) (y .2) (x .2) in
         let f : y .0 ≡ resultsIn t after = cc in
@@ -228,7 +228,7 @@ module _ (t inputs : List ℕ) where
 
     ended-never-faults : (T F i : ℕ) → PlainAnswer t inputs room A (Ended T) after → Called t lent inputs s list a (RunZeroStep F i) end → ⊥
     ended-never-faults T F i p c =
-        let x = written-is-read room A T after p in
+        let x = written-words-are-read room A T after p in
         let y = zero-step-calls-read t inputs lent s list a F i (RunZeroStep F i) end c refl in
         let o = one-outcome t inputs (zeroStep (y .0) (y .1)) (ended (resultsIn t after) (x .0)) (y .2) (x .2) in
         let z : _≡_ {A = ℕ} 0 1 = cc in
@@ -311,6 +311,6 @@ sum-writes : resultsIn sumTable (10 ∷ 9 ∷ []) ≡ 10 ∷ []
 unfolding rowsOf
 sum-writes = refl
 
-pub the-sum-is-one : (lent s list : List ℕ) (a F : ℕ) (q : Ran) (end : List ℕ) → Called sumTable lent (5 ∷ []) s list a q end → q ≡ Complete F → AsRead sumTable (10 ∷ []) end
-the-sum-is-one lent s list a F q end c e =
+pub both-sum-to-ten : (lent s list : List ℕ) (a F : ℕ) (q : Ran) (end : List ℕ) → Called sumTable lent (5 ∷ []) s list a q end → q ≡ Complete F → AsRead sumTable (10 ∷ []) end
+both-sum-to-ten lent s list a F q end c e =
     subst (λ (x : List ℕ). AsRead sumTable x end) sum-writes (two-answers-agree sumTable (5 ∷ []) (7 ∷ 9 ∷ []) 5 5 (10 ∷ 9 ∷ []) five-turns-end lent s list a F q end c e)

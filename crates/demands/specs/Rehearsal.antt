@@ -10,7 +10,7 @@
 --                                 each opening of N turns
 --   rehearsal-meets-the-fault     where it meets a zero step, every run is SPENT or leaves the STREAM of that loop waiting with it, and answers ZERO STEP
 --   complete-is-the-reading       a run that answers COMPLETE: the plain reading ends, and the run has left its words and nothing else
---   zero-step-is-the-reading      one that answers ZERO STEP: the plain reading meets a zero step; run-is-never-stranded: none answers STRANDED
+--   zero-step-run-is-the-reading      one that answers ZERO STEP: the plain reading meets a zero step; run-is-never-stranded: none answers STRANDED
 --   as-many-inputs                `load` takes as many inputs as the table has INPUT rows; inputs-are-loaded: those it takes, in a state of the right length
 --
 -- Assumes nothing.
@@ -213,9 +213,9 @@ module _ (t inputs lent : List ℕ) (w : lowerAnswer t (length lent) .number ≡
         sym (ap (λ o. o .answer) (ran-shown (loweredWords t) (end t lent w inputs s loads list a runs) (made t lent w inputs s loads list a runs) .1))
         ∙ ap (λ x. ranOutcome x .answer) (sym (answer-is t lent w inputs s loads list a runs) ∙ e)
 
-    pub zero-step-is-the-reading : (F i : ℕ) → runAnswer (Graph t lent) (loadState (Graph t lent) inputs s) list a ≡ ZeroStep F i
+    pub zero-step-run-is-the-reading : (F i : ℕ) → runAnswer (Graph t lent) (loadState (Graph t lent) inputs s) list a ≡ ZeroStep F i
         → (L : ℕ) × (openings : List Opening) × Reads t inputs (zeroStep L openings)
-    zero-step-is-the-reading F i e =
+    zero-step-run-is-the-reading F i e =
         let c = answer-shows (ZeroStep F i) e in
         let o = run-is-an-order (loweredWords t) list (loadedTable t inputs) a (λ z. let y : ZERO-STEP ≡ SPENT = sym c ∙ z in omega arith) in
         zero-step-means-the-reading t (lowered-is-checked t lent w) inputs (madeBy (loweredWords t) list (loadedTable t inputs) a) (end t lent w inputs s loads list a runs) (o .0) (o .1) c

@@ -11,7 +11,7 @@
 --   spent-is-the-rest                 where it is spent, all turns allowed are made and one more is due, and every outcome of the reading has more turns
 --   the-rest-is-spent                 and back; so due-turns-are-spent, too-few-are-spent, endless-is-spent
 --   refused-is-refused, the-refusal-is-answered       a refusal, with its number and row; the lent words stay
---   answer-number, plain-number, plain-refusal        the answer by number
+--   answer-number, plain-number, plain-refusal, plain-outcome     the answer by number, and what each number says
 --   some-read, one-read               each call has an answer, and one only
 --   more-turns-change-no-end, more-turns-change-no-zero-step, turns-change-no-refusal         what is not spent stays the same with a larger allowance
 --
@@ -363,6 +363,18 @@ module _ (t inputs lent : List ℕ) (A : ℕ) where
       go (is-ended m rs os w e l) = absurd (z m)
       go (is-fault m L os w e l) = absurd (z m)
       go (is-spent m w e l) = absurd (z m)
+
+  -- where nothing is refused: 0 ended, 1 a zero step at the row told, 3 spent
+  pub data TellsSo (r : Plain) (after : List ℕ) : Type 0 where
+    tells-ended : plainOutcome r ≡ 0 → plainRow r ≡ 0 → EndsSo t inputs lent A (plainTurns r) after → TellsSo r after
+    tells-zero-step : plainOutcome r ≡ 1 → FaultsSo t inputs lent A (plainRow r) (plainTurns r) after → TellsSo r after
+    tells-spent : plainOutcome r ≡ 3 → plainRow r ≡ 0 → SpentSo t inputs lent A (plainTurns r) after → TellsSo r after
+
+  pub plain-outcome : (r : Plain) (after : List ℕ) → PlainAnswer t inputs lent A r after → plainNumber r ≡ 0 → TellsSo r after
+  plain-outcome (Refused n row) after p z = absurd (refused-is-refused n row after p .1 z)
+  plain-outcome (Ended T) after p z = tells-ended refl refl (ended-is-the-reading T after p)
+  plain-outcome (ZeroStep L T) after p z = tells-zero-step refl (zero-step-is-the-reading L T after p)
+  plain-outcome (Spent T) after p z = tells-spent refl refl (spent-is-the-rest T after p)
 
   -- ONE ANSWER
   pub some-read : PlainAnswer t inputs lent A (plainAnswer t inputs (length lent) A) (plainLent t inputs lent A)

@@ -1,5 +1,6 @@
 -- Calls of read_plain on the register's tables, computed.
--- Main results: `five-turns-end` and what fewer turns leave, `no-turn-ends`, `zero-step-is-told`, `four-openings-end`, and a case for each refusal that the reading has.
+-- Main results: `five-turns-end` and what fewer turns leave, `no-turn-ends`, `zero-step-is-told`, `four-openings-end`, `args-change-places`, zero steps behind and inside a turn,
+-- and refusals 1, 5, 10 and 16.
 -- Assumes nothing.
 use Prim.Native.Nat.{ℕ}
 use mathlib.Core.Path.{refl}
@@ -10,7 +11,7 @@ use Rattle.table.specs.Counted.{rowsOf}
 use Rattle.table.specs.Scan.{after, stackAt, bodyOf, readStack, reads, homeBy, home, bodyOpen, endPassed, visible}
 use Rattle.table.specs.Check.{lengthRight, kindRight, zerosFrom, spareRight, codesFrom, codeRight, follows, stands, placeRight, depthRight, namesFrom, namesRight, typesFrom, typesRight, endRight, rowRefusal, rowsFrom, tableRefusal}
 use Rattle.table.specs.Bodies.{rowBy, rowAt, ends, endFrom, endOf, argsFrom, argsOf, firstOf, isArg, isNext, argOf, nextOf}
-use Rattle.table.specs.Cases.{input, const, loop, arg, close, out, sumTable, sumBy, p12Table}
+use Rattle.table.specs.Cases.{row6, input, const, loop, arg, next, close, out, sumTable, sumBy, p12Table}
 use Rattle.reading.specs.Reading.{firstWords, begin, resultsFrom, turn, leave, step}
 use Rattle.reading.specs.Within.{turnsMade, readWithin}
 use Rattle.engine.specs.Answers.{plainRefusal, plainWithin, plainAnswer, plainLent, PlainAnswer}
@@ -72,6 +73,21 @@ zero-step-behind-a-turn = record { answer = refl; lent-words = refl }
 pub spent-before-the-zero-step : PlainAnswer (input (const 0 (const 1 (loop 1 2 2 0 0 (close (loop 1 1 2 0 0 (close (out 0)))))))) (5 ∷ []) (7 ∷ []) 0 (Spent 0) (7 ∷ [])
 unfolding plain-computes
 spent-before-the-zero-step = record { answer = refl; lent-words = refl }
+
+-- A zero step inside a turn: INPUT, CONST 0, CONST 1, FOR 1 2 2 0 0, FOR 1 1 2 0 0, END, END, OUT 0. The turn counts when it starts: with one allowed it is
+-- told, and with none allowed the turn itself is not made.
+pub zero-step-inside-a-turn : PlainAnswer (input (const 0 (const 1 (loop 1 2 2 0 0 (loop 1 1 2 0 0 (close (close (out 0)))))))) (5 ∷ []) (7 ∷ []) 1 (ZeroStep 4 1) (7 ∷ [])
+unfolding plain-computes
+zero-step-inside-a-turn = record { answer = refl; lent-words = refl }
+
+pub spent-before-that-turn : PlainAnswer (input (const 0 (const 1 (loop 1 2 2 0 0 (loop 1 1 2 0 0 (close (close (out 0)))))))) (5 ∷ []) (7 ∷ []) 0 (Spent 0) (7 ∷ [])
+unfolding plain-computes
+spent-before-that-turn = record { answer = refl; lent-words = refl }
+
+-- two ARGs change places three times, and two OUTs have a word each
+pub args-change-places : PlainAnswer (const 0 (const 1 (const 3 (loop 0 1 2 0 0 (arg 0 (arg 1 (next 5 (next 4 (close (row6 8 6 0 0 0 0 (out 7))))))))))) [] (7 ∷ 8 ∷ 9 ∷ []) 3 (Ended 3) (1 ∷ 0 ∷ 9 ∷ [])
+unfolding plain-computes
+args-change-places = record { answer = refl; lent-words = refl }
 
 -- 16 INPUTS: one word too few, one too many
 pub no-input-word : PlainAnswer sumTable [] (7 ∷ []) 5 (Refused 16 0) (7 ∷ [])

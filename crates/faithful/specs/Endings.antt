@@ -31,10 +31,12 @@ use Rattle.table.specs.Rows.{kindAt, word, size, OUT}
 use Rattle.table.specs.Bodies.{out}
 use Rattle.structure.specs.Structure.{Structure}
 use Rattle.reading.specs.Reading.{Env, resultsFrom}
+use Rattle.reading.specs.Results.{results-are-rows}
 use Rattle.lowered.specs.Gathered.{those, position}
 use Rattle.lowered.specs.Roles.{result}
 use Rattle.lowered.specs.Lower.{isOut, outRows, standsOn, resultTotal, loweredWords}
 use Rattle.laid.specs.Lists.{has-elem, there, in-range, at-position, those-from, those-has, none-some}
+use Rattle.laid.specs.Those.{rows-counted}
 use Rattle.laid.specs.Words.{result-count, result-at}
 use Rattle.uses.specs.Flat.{Holds}
 use Rattle.faithful.specs.Table.{Table}
@@ -77,16 +79,6 @@ results-along t env (suc m) r k q h = go (eqb (kindAt t r) OUT) k h (λ j. resul
     go true (suc j) k ih = ih j k
     go false j k ih = ih j k
 
-results-long : (t : List ℕ) (env : Env) (m r : ℕ) → length (resultsFrom m t env r) ≡ length (outsFrom t m r)
-unfolding outsFrom resultsFrom
-results-long t env zero r = refl
-results-long t env (suc m) r = go (eqb (kindAt t r) OUT) (results-long t env m (suc r))
-  where
-    go : (b : Bool) → length (resultsFrom m t env (suc r)) ≡ length (outsFrom t m (suc r))
-        → length (cond b (env (word t r 1) ∷ resultsFrom m t env (suc r)) (resultsFrom m t env (suc r))) ≡ length (cond b (r ∷ outsFrom t m (suc r)) (outsFrom t m (suc r)))
-    go true e = ap suc e
-    go false e = e
-
 module _ (t : List ℕ) where
   outs-are : outRows t ≡ outsFrom t (size t) 0
   unfolding outRows those
@@ -97,7 +89,7 @@ module _ (t : List ℕ) where
 
   pub results-counted : (env : Env) → length (resultsFrom (size t) t env 0) ≡ resultCount (loweredWords t)
   unfolding resultTotal
-  results-counted env = results-long t env (size t) 0 ∙ ap length (sym outs-are) ∙ sym (result-count t)
+  results-counted env = results-are-rows t env ∙ sym (rows-counted OUT t (size t)) ∙ sym (result-count t)
 
 -- ---- every test holds
 

@@ -1,6 +1,6 @@
 -- Every loop that is open where the reading stands has an opening. So each further turn is counted, and the reading within an allowance is of bounded length.
 --
---   Standing, begin-stands, step-stands, reach-stands      it is so from the beginning on
+--   Standing, begin-stands, step-further, reach-stands     it is so from the beginning on, and a step goes to a row further down or makes a turn
 --   turn-counts, no-turn-made, one-turn-made      a further turn of a loop that has an opening is one turn more
 --   walk-is-bounded                   with A turns allowed, (A + 1) times the rows and one step more are enough
 --

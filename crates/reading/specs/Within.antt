@@ -4,7 +4,7 @@
 --   one-within                        there is at most one answer
 --   within-is-read, read-is-within    it comes to an outcome exactly if the reading comes there with no more turns than allowed
 --   spent-needs-more                  where it is spent, the reading needs more turns or never ends
---   spent-is-all                      and all that is allowed was made, with one more turn due
+--   spent-is-all, due-is-spent        that is, where all that are allowed are made and one more turn is due (`Due`)
 --   reach-within                      states on the way change nothing
 --
 -- Assumes nothing.

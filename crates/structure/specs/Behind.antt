@@ -19,20 +19,20 @@ use Rattle.structure.specs.Loops.{innermost}
 use Rattle.structure.specs.Order.{nothing-left-open, at-most-eight-deep}
 use Rattle.structure.specs.Serving.{header-rows, header-stack}
 
-abbrev rowsOf : List Loop → List ℕ
-rowsOf [] = []
-rowsOf (l ∷ s) = l .row ∷ rowsOf s
+abbrev forRows : List Loop → List ℕ
+forRows [] = []
+forRows (l ∷ s) = l .row ∷ forRows s
 
 -- the FOR rows of the loops that are open before row r, innermost first
 unfoldable pub loopsAt : List ℕ → ℕ → List ℕ
-loopsAt t r = rowsOf (stackAt t r)
+loopsAt t r = forRows (stackAt t r)
 
 -- the first of them, or the row count
 abbrev inmost : ℕ → List ℕ → ℕ
 inmost n [] = n
 inmost n (L ∷ s) = L
 
-inner-is-inmost : (n : ℕ) (s : List Loop) → inner n s ≡ inmost n (rowsOf s)
+inner-is-inmost : (n : ℕ) (s : List Loop) → inner n s ≡ inmost n (forRows s)
 inner-is-inmost n [] = refl
 inner-is-inmost n (l ∷ s) = refl
 
@@ -62,24 +62,24 @@ pub loops-around : (t : List ℕ) → TableRight t → (r : ℕ) → r ≤ size 
 unfolding loopsAt bodyOf
 loops-around t ok r l n = go (stackAt t r) refl n
   where
-    go : (s : List Loop) → stackAt t r ≡ s → inner (size t) s ≢ size t → rowsOf s ≡ inner (size t) s ∷ rowsOf (stackAt t (inner (size t) s))
+    go : (s : List Loop) → stackAt t r ≡ s → inner (size t) s ≢ size t → forRows s ≡ inner (size t) s ∷ forRows (stackAt t (inner (size t) s))
     go [] e n = absurd (n refl)
-    go (x ∷ s) e n = ap (λ (z : List Loop). x .row ∷ rowsOf z) (sym (innermost t ok r l x s e .around))
+    go (x ∷ s) e n = ap (λ (z : List Loop). x .row ∷ forRows z) (sym (innermost t ok r l x s e .around))
 
 pub loops-after-end : (t : List ℕ) → TableRight t → (r : ℕ) → r < size t → kindAt t r ≡ 7 → loopsAt t (suc r) ≡ loopsAt t (bodyOf t r)
 unfolding loopsAt bodyOf stackAt after
 loops-after-end t ok r l k = rw k (go (stackAt t r) refl)
   where
-    go : (s : List Loop) → stackAt t r ≡ s → rowsOf (outward s) ≡ rowsOf (stackAt t (inner (size t) s))
-    go [] e = ap rowsOf (sym (nothing-left-open t ok))
-    go (x ∷ s) e = ap rowsOf (sym (innermost t ok r (omega arith) x s e .around))
+    go : (s : List Loop) → stackAt t r ≡ s → forRows (outward s) ≡ forRows (stackAt t (inner (size t) s))
+    go [] e = ap forRows (sym (nothing-left-open t ok))
+    go (x ∷ s) e = ap forRows (sym (innermost t ok r (omega arith) x s e .around))
 
 -- ARG and NEXT only count
-same-rows : (f : Loop → Loop) → ((l : Loop) → f l .row ≡ l .row) → (s : List Loop) → rowsOf (atHead f s) ≡ rowsOf s
+same-rows : (f : Loop → Loop) → ((l : Loop) → f l .row ≡ l .row) → (s : List Loop) → forRows (atHead f s) ≡ forRows s
 same-rows f h [] = refl
-same-rows f h (l ∷ s) = ap (λ (x : ℕ). x ∷ rowsOf s) (h l)
+same-rows f h (l ∷ s) = ap (λ (x : ℕ). x ∷ forRows s) (h l)
 
-counted-rows : (kind r : ℕ) (s : List Loop) → kind ≢ 4 → kind ≢ 7 → rowsOf (after kind r s) ≡ rowsOf s
+counted-rows : (kind r : ℕ) (s : List Loop) → kind ≢ 4 → kind ≢ 7 → forRows (after kind r s) ≡ forRows s
 unfolding after
 counted-rows kind r s a b =
     elim (ℕ-discrete kind 5) [
@@ -101,9 +101,9 @@ in-body t L k h = header-stack t L (argsOf t L) k h
 -- behind its ARGs a loop is open, and those around it
 pub loops-in-body : (t : List ℕ) (L : ℕ) → kindAt t L ≡ 4 → loopsAt t (firstOf t L) ≡ L ∷ loopsAt t L
 unfolding loopsAt
-loops-in-body t L k = ap rowsOf (in-body t L k (header-rows t L))
+loops-in-body t L k = ap forRows (in-body t L k (header-rows t L))
 
-rows-long : (s : List Loop) → length (rowsOf s) ≡ length s
+rows-long : (s : List Loop) → length (forRows s) ≡ length s
 rows-long [] = refl
 rows-long (l ∷ s) = ap suc (rows-long s)
 
