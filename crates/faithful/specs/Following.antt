@@ -2,7 +2,7 @@
 -- the reading stands.
 --
 --   Follows                   the use machine stands where the reading does: its configuration, and the words on each loop's conditions
---   one-step                  a step of the reading is a list of firings
+--   one-step                  a step of the reading is a list of firings, and one that goes back or makes a turn has some
 --   Ended, Faulted            the reading has ended; it has met a zero step
 --   followed                  a reading that comes to an outcome is followed to it
 --
@@ -28,6 +28,8 @@ use Rattle.structure.specs.Structure.{Structure}
 use Rattle.reading.specs.Reading.{Opening, opening, Outcome, ended, zeroStep, Step, on, stop, oneTurn, resultsFrom, turn, leave, nextNamed, argNamed, forStep, endStep, endBy, rowStep, step, andThen, readFrom}
 use Rattle.reading.specs.Reading
 use Rattle.reading.specs.Steps.{step-below, step-past}
+use Rattle.reading.specs.Within.{turnsMade}
+use Rattle.reading.specs.Standing.{no-turn-made}
 use Rattle.lowered.specs.Roles.{Role, stream, gate}
 use Rattle.uses.specs.Machine.{State, Steps, steps-append}
 use Rattle.faithful.specs.Table.{Table, IsFor, isArg, plan}
@@ -58,6 +60,10 @@ and-left false b h = h
 set-as-cond : (b : Bool) (x y : ℕ) → cond b x y ≡ setBy b x y
 set-as-cond true x y = refl
 set-as-cond false x y = refl
+
+-- a step from row pc and m turns to row pc₁ and m₁ turns, with n firings: it goes down and makes no turn, or there are some firings
+abbrev pub DownOrFires : ℕ → ℕ → ℕ → ℕ → ℕ → Type 0
+DownOrFires pc m pc₁ m₁ n = ((pc < pc₁) × (m₁ ≡ m)) ⊎ (0 < n)
 
 module _ (t : List ℕ) (S : Structure t) where
   abbrev tb : Table
@@ -164,9 +170,9 @@ module _ (t : List ℕ) (S : Structure t) where
     pub gamma : Gamma tb (r .pc) (r .env) s
     pub told : (M : ℕ) → IsFor tb M → Told tb M (r .pc) (r .openings) (s .hist (stream M) out1) (s .hist (gate M) out1)
 
-  -- from row pc the reading goes on to r, and firings lead from s there; if it goes back, there are some
-  abbrev pub Onward : ℕ → Reading.State → State → Type 0
-  Onward pc r s = (xs : List Role) × (s′ : State) × Steps (plan tb) xs s s′ × Follows r s′ × ((pc < r .pc) ⊎ (0 < length xs))
+  -- from row pc, with openings os, the reading goes on to r, and firings lead from s there; if it goes back or makes a turn, there are some
+  abbrev pub Onward : ℕ → List Opening → Reading.State → State → Type 0
+  Onward pc os r s = (xs : List Role) × (s′ : State) × Steps (plan tb) xs s s′ × Follows r s′ × DownOrFires pc (turnsMade os) (r .pc) (turnsMade (r .openings)) (length xs)
 
   -- a path that puts a word somewhere has a firing
   some-fire : (xs : List Role) (s s′ : State) (M w : ℕ) → Steps (plan tb) xs s s′ → s′ .hist (stream M) out1 ≡ s .hist (stream M) out1 ++ (w ∷ []) → 0 < length xs
@@ -178,7 +184,7 @@ module _ (t : List ℕ) (S : Structure t) where
 
   -- ---- a row that opens and shuts no loop
   module _ (pc : ℕ) (env : Env) (os : List Opening) (s : State) (F : Follows (Reading.at pc env os) s) (l : pc < size t) where
-    straight : (IsFor tb pc → ⊥) → (tb .row pc ≡ end → ⊥) → (env′ : Env) → Path tb g env s (suc pc) env′ (silent tb g) (silent tb g) → Onward pc (Reading.at (suc pc) env′ os) s
+    straight : (IsFor tb pc → ⊥) → (tb .row pc ≡ end → ⊥) → (env′ : Env) → Path tb g env s (suc pc) env′ (silent tb g) (silent tb g) → Onward pc os (Reading.at (suc pc) env′ os) s
     straight nf ne env′ P = (
       P .0,
       P .1,
@@ -195,10 +201,10 @@ module _ (t : List ℕ) (S : Structure t) where
             (λ i. let i0 : tb .first M ≤ pc = i .0 in let i1 : pc ≤ tb .last M = i .1 in (omega arith, omega arith), λ i. let i0 : tb .first M ≤ suc pc = i .0 in let i1 : suc pc ≤ tb .last M = i .1 in (omega arith, omega arith))
             refl (P .4 M ∙ append-nil (s .hist (stream M) out1)) (P .5 M ∙ append-nil (s .hist (gate M) out1)) (F .told M m);
       },
-      inl (omega arith),
+      inl (omega arith, refl),
     )
 
-    quiet : (IsFor tb pc → ⊥) → (tb .row pc ≡ end → ⊥) → plainRow tb g (tb .row pc) ≡ true → Onward pc (Reading.at (suc pc) env os) s
+    quiet : (IsFor tb pc → ⊥) → (tb .row pc ≡ end → ⊥) → plainRow tb g (tb .row pc) ≡ true → Onward pc os (Reading.at (suc pc) env os) s
     quiet nf ne h =
         straight nf ne env ([], s, refl, step-plain tb g pc l h env s (F .gamma), λ M. sym (append-nil (s .hist (stream M) out1)), λ M. sym (append-nil (s .hist (gate M) out1)))
 
@@ -225,9 +231,13 @@ module _ (t : List ℕ) (S : Structure t) where
     say-other : (M : ℕ) (w : List ℕ) → M ≢ L → sayIf (eqb M L) w ≡ []
     say-other M w n = rw (ne-eqb M L n)
 
+    -- a path that says the condition of a turn has a firing
+    turn-fires : (xs : List Role) (s s′ : State) → Steps (plan tb) xs s s′ → s′ .hist (stream L) out1 ≡ s .hist (stream L) out1 ++ sayIf (eqb L L) (1 ∷ []) → 0 < length xs
+    turn-fires xs s s′ P h = some-fire xs s s′ L 1 P (h ∙ ap (λ (z : List ℕ). s .hist (stream L) out1 ++ z) (say-own L (1 ∷ []) refl))
+
     -- FOR, a turn starts
     module _ (env : Env) (os : List Opening) (s : State) (F : Follows (Reading.at L env os) s) (nz : env st ≢ 0) where
-      opens : (k : ℕ) → condition c (env a) (env b) ≡ suc k → Onward L (Reading.at (firstOf t L) (turn t L (env a) (Reading.named t env) env) (opening L 1 ∷ os)) s
+      opens : (k : ℕ) → condition c (env a) (env b) ≡ suc k → Onward L os (Reading.at (firstOf t L) (turn t L (env a) (Reading.named t env) env) (opening L 1 ∷ os)) s
       unfolding f
       opens k h =
           let P = step-open tb g L a st b u c q env s (F .gamma) nz k h in
@@ -254,11 +264,11 @@ module _ (t : List ℕ) (S : Structure t) where
                         (P .4 M ∙ ap (λ (z : List ℕ). s .hist (stream M) out1 ++ z) (say-other M (1 ∷ []) n) ∙ append-nil (s .hist (stream M) out1)) (P .5 M ∙ append-nil (s .hist (gate M) out1)) (F .told M m)
                   ];
                 }),
-            inl (let x = g .for-first L f in omega arith),
+            inr (turn-fires (P .0) s (P .1) (P .2) (P .4 L)),
           )
 
       -- FOR, no turn
-      skips : condition c (env a) (env b) ≡ 0 → Onward L (Reading.at (suc (endOf t L)) (leave t L (argNamed t env) env) (opening L 0 ∷ os)) s
+      skips : condition c (env a) (env b) ≡ 0 → Onward L os (Reading.at (suc (endOf t L)) (leave t L (argNamed t env) env) (opening L 0 ∷ os)) s
       unfolding f
       skips h =
           let P = step-none tb g L a st b u c q env s (F .gamma) nz h in
@@ -285,7 +295,7 @@ module _ (t : List ℕ) (S : Structure t) where
                         (P .4 M ∙ ap (λ (z : List ℕ). s .hist (stream M) out1 ++ z) (say-other M (0 ∷ []) n) ∙ append-nil (s .hist (stream M) out1)) (P .5 M ∙ append-nil (s .hist (gate M) out1)) (F .told M m)
                   ];
                 }),
-            inl (let x = g .for-first L f in let y = g .for-last L f in omega arith),
+            inl (let x = g .for-first L f in let y = g .for-last L f in omega arith, no-turn-made L os),
           )
         where
           after-end : (i : ℕ) → tb .row (suc (tb .last L)) ≡ arg i → ⊥
@@ -296,7 +306,7 @@ module _ (t : List ℕ) (S : Structure t) where
       index : ℕ
       index = update u (env L) (env st)
 
-      again : (k : ℕ) → condition c index (env b) ≡ suc k → Onward (tb .last L) (Reading.at (firstOf t L) (turn t L index (nextNamed t env) env) (oneTurn L os)) s
+      again : (k : ℕ) → condition c index (env b) ≡ suc k → Onward (tb .last L) os (Reading.at (firstOf t L) (turn t L index (nextNamed t env) env) (oneTurn L os)) s
       unfolding f index
       again k h =
           let P = step-again tb g L a st b u c q env s (F .gamma) k h in
@@ -324,10 +334,10 @@ module _ (t : List ℕ) (S : Structure t) where
                         (P .5 M ∙ ap (λ (z : List ℕ). s .hist (gate M) out1 ++ z) (say-other M (1 ∷ []) n) ∙ append-nil (s .hist (gate M) out1)) (F .told M m)
                   ];
                 }),
-            inr (some-fire (P .0) s (P .1) L 1 (P .2) (P .4 L ∙ ap (λ (z : List ℕ). s .hist (stream L) out1 ++ z) (say-own L (1 ∷ []) refl))),
+            inr (turn-fires (P .0) s (P .1) (P .2) (P .4 L)),
           )
 
-      leaves : condition c index (env b) ≡ 0 → Onward (tb .last L) (Reading.at (suc (tb .last L)) (leave t L (Reading.named t env) env) os) s
+      leaves : condition c index (env b) ≡ 0 → Onward (tb .last L) os (Reading.at (suc (tb .last L)) (leave t L (Reading.named t env) env) os) s
       unfolding f index
       leaves h =
           let P = step-leave tb g L a st b u c q env s (F .gamma) h in
@@ -354,7 +364,7 @@ module _ (t : List ℕ) (S : Structure t) where
                         (P .5 M ∙ ap (λ (z : List ℕ). s .hist (gate M) out1 ++ z) (say-other M (0 ∷ []) n) ∙ append-nil (s .hist (gate M) out1)) (F .told M m)
                   ];
                 }),
-            inl (omega arith),
+            inl (omega arith, refl),
           )
         where
           after-end : (i : ℕ) → tb .row (suc (tb .last L)) ≡ arg i → ⊥
@@ -362,51 +372,51 @@ module _ (t : List ℕ) (S : Structure t) where
 
   -- ---- any row
 
-  move : (pc : ℕ) (a r : Reading.State) (s : State) → on a ≡ on r → Onward pc a s → Onward pc r s
-  move pc a r s h P = let e : a ≡ r = cc in subst (λ (z : Reading.State). Onward pc z s) e P
+  move : (pc : ℕ) (os : List Opening) (a r : Reading.State) (s : State) → on a ≡ on r → Onward pc os a s → Onward pc os r s
+  move pc os a r s h P = let e : a ≡ r = cc in subst (λ (z : Reading.State). Onward pc os z s) e P
 
   choose-is : (f x y : ℕ) → Reading.choose f x y ≡ choose f x y
   choose-is zero x y = refl
   choose-is (suc f) x y = refl
 
   for-step : (L a st b u c : ℕ) → tb .row L ≡ for a st b u c → (env : Env) (os : List Opening) (s : State) → Follows (Reading.at L env os) s
-      → (x : ℕ) → env st ≡ x → (y : ℕ) → condition c (env a) (env b) ≡ y → (r : Reading.State) → forStep t L (env a) env os x y ≡ on r → Onward L r s
+      → (x : ℕ) → env st ≡ x → (y : ℕ) → condition c (env a) (env b) ≡ y → (r : Reading.State) → forStep t L (env a) env os x y ≡ on r → Onward L os r s
   for-step L a st b u c q env os s F zero ex y ey r h = let z : _≡_ {A = ℕ} 0 1 = cc in absurd (omega arith)
   for-step L a st b u c q env os s F (suc x) ex zero ey r h =
-      move L (Reading.at (suc (endOf t L)) (leave t L (argNamed t env) env) (opening L 0 ∷ os)) r s h (skips L a st b u c q env os s F (λ z. omega arith) ey)
+      move L os (Reading.at (suc (endOf t L)) (leave t L (argNamed t env) env) (opening L 0 ∷ os)) r s h (skips L a st b u c q env os s F (λ z. omega arith) ey)
   for-step L a st b u c q env os s F (suc x) ex (suc y) ey r h =
-      move L (Reading.at (firstOf t L) (turn t L (env a) (Reading.named t env) env) (opening L 1 ∷ os)) r s h (opens L a st b u c q env os s F (λ z. omega arith) y ey)
+      move L os (Reading.at (firstOf t L) (turn t L (env a) (Reading.named t env) env) (opening L 1 ∷ os)) r s h (opens L a st b u c q env os s F (λ z. omega arith) y ey)
 
   end-step : (L a st b u c : ℕ) → tb .row L ≡ for a st b u c → (pc : ℕ) → tb .last L ≡ pc → (env : Env) (os : List Opening) (s : State) → Follows (Reading.at pc env os) s
-      → (y : ℕ) → condition c (update u (env L) (env st)) (env b) ≡ y → (r : Reading.State) → endStep t L pc (update u (env L) (env st)) env os y ≡ on r → Onward pc r s
+      → (y : ℕ) → condition c (update u (env L) (env st)) (env b) ≡ y → (r : Reading.State) → endStep t L pc (update u (env L) (env st)) env os y ≡ on r → Onward pc os r s
   unfolding index
   end-step L a st b u c q pc e env os s F zero ey r h =
-      move pc (Reading.at (suc pc) (leave t L (Reading.named t env) env) os) r s h
-      (subst (λ (z : ℕ). Onward z (Reading.at (suc z) (leave t L (Reading.named t env) env) os) s) e
+      move pc os (Reading.at (suc pc) (leave t L (Reading.named t env) env) os) r s h
+      (subst (λ (z : ℕ). Onward z os (Reading.at (suc z) (leave t L (Reading.named t env) env) os) s) e
       (leaves L a st b u c q env os s (subst (λ (z : ℕ). Follows (Reading.at z env os) s) (sym e) F) ey))
   end-step L a st b u c q pc e env os s F (suc y) ey r h =
-      move pc (Reading.at (firstOf t L) (turn t L (update u (env L) (env st)) (nextNamed t env) env) (oneTurn L os)) r s h
-      (subst (λ (z : ℕ). Onward z (Reading.at (firstOf t L) (turn t L (update u (env L) (env st)) (nextNamed t env) env) (oneTurn L os)) s) e
+      move pc os (Reading.at (firstOf t L) (turn t L (update u (env L) (env st)) (nextNamed t env) env) (oneTurn L os)) r s h
+      (subst (λ (z : ℕ). Onward z os (Reading.at (firstOf t L) (turn t L (update u (env L) (env st)) (nextNamed t env) env) (oneTurn L os)) s) e
       (again L a st b u c q env os s (subst (λ (z : ℕ). Follows (Reading.at z env os) s) (sym e) F) y ey))
 
   -- A STEP OF THE READING is a list of firings
-  pub one-step : (d : Row) (pc : ℕ) (env : Env) (os : List Opening) (s : State) → tb .row pc ≡ d → pc < size t → Follows (Reading.at pc env os) s → (r : Reading.State) → rowStep d t pc env os ≡ on r → Onward pc r s
+  pub one-step : (d : Row) (pc : ℕ) (env : Env) (os : List Opening) (s : State) → tb .row pc ≡ d → pc < size t → Follows (Reading.at pc env os) s → (r : Reading.State) → rowStep d t pc env os ≡ on r → Onward pc os r s
   one-step input pc env os s q l F r h =
-      move pc (Reading.at (suc pc) env os) r s h (quiet pc env os s F l (λ m. let k = m .5 in let z : _≡_ {A = ℕ} 0 1 = cc in omega arith) (λ e. let z : _≡_ {A = ℕ} 0 1 = cc in omega arith) (ap (plainRow tb g) q))
+      move pc os (Reading.at (suc pc) env os) r s h (quiet pc env os s F l (λ m. let k = m .5 in let z : _≡_ {A = ℕ} 0 1 = cc in omega arith) (λ e. let z : _≡_ {A = ℕ} 0 1 = cc in omega arith) (ap (plainRow tb g) q))
   one-step (const w) pc env os s q l F r h =
-      move pc (Reading.at (suc pc) env os) r s h (quiet pc env os s F l (λ m. let k = m .5 in let z : _≡_ {A = ℕ} 0 1 = cc in omega arith) (λ e. let z : _≡_ {A = ℕ} 0 1 = cc in omega arith) (ap (plainRow tb g) q))
+      move pc os (Reading.at (suc pc) env os) r s h (quiet pc env os s F l (λ m. let k = m .5 in let z : _≡_ {A = ℕ} 0 1 = cc in omega arith) (λ e. let z : _≡_ {A = ℕ} 0 1 = cc in omega arith) (ap (plainRow tb g) q))
   one-step (op c x y) pc env os s q l F r h =
-      move pc (Reading.at (suc pc) (Reading.setRow pc (operate c (env x) (env y)) env) os) r s h
-      (subst (λ (z : Env). Onward pc (Reading.at (suc pc) z os) s) (sym (set-is pc (operate c (env x) (env y)) env))
+      move pc os (Reading.at (suc pc) (Reading.setRow pc (operate c (env x) (env y)) env) os) r s h
+      (subst (λ (z : Env). Onward pc os (Reading.at (suc pc) z os) s) (sym (set-is pc (operate c (env x) (env y)) env))
       (straight pc env os s F l (λ m. let k = m .5 in let z : _≡_ {A = ℕ} 0 1 = cc in omega arith) (λ e. let z : _≡_ {A = ℕ} 0 1 = cc in omega arith) (setTo pc (operate c (env x) (env y)) env) (step-op tb g pc c x y q env s (F .gamma))))
   one-step (pick f x y) pc env os s q l F r h =
-      move pc (Reading.at (suc pc) (Reading.setRow pc (Reading.choose (env f) (env x) (env y)) env) os) r s h
-      (subst (λ (z : Env). Onward pc (Reading.at (suc pc) z os) s) (sym (ap (λ (z : ℕ). Reading.setRow pc z env) (choose-is (env f) (env x) (env y)) ∙ set-is pc (choose (env f) (env x) (env y)) env))
+      move pc os (Reading.at (suc pc) (Reading.setRow pc (Reading.choose (env f) (env x) (env y)) env) os) r s h
+      (subst (λ (z : Env). Onward pc os (Reading.at (suc pc) z os) s) (sym (ap (λ (z : ℕ). Reading.setRow pc z env) (choose-is (env f) (env x) (env y)) ∙ set-is pc (choose (env f) (env x) (env y)) env))
       (straight pc env os s F l (λ m. let k = m .5 in let z : _≡_ {A = ℕ} 0 1 = cc in omega arith) (λ e. let z : _≡_ {A = ℕ} 0 1 = cc in omega arith) (setTo pc (choose (env f) (env x) (env y)) env) (step-pick tb g pc f x y q env s (F .gamma))))
   one-step (for a st b u c) pc env os s q l F r h = for-step pc a st b u c q env os s F (env st) refl (condition c (env a) (env b)) refl r h
   one-step (arg i) pc env os s q l F r h = absurd (F .plain i q)
   one-step (next v) pc env os s q l F r h =
-      move pc (Reading.at (suc pc) env os) r s h (quiet pc env os s F l (λ m. let k = m .5 in let z : _≡_ {A = ℕ} 0 1 = cc in omega arith) (λ e. let z : _≡_ {A = ℕ} 0 1 = cc in omega arith) (ap (plainRow tb g) q))
+      move pc os (Reading.at (suc pc) env os) r s h (quiet pc env os s F l (λ m. let k = m .5 in let z : _≡_ {A = ℕ} 0 1 = cc in omega arith) (λ e. let z : _≡_ {A = ℕ} 0 1 = cc in omega arith) (ap (plainRow tb g) q))
   one-step end pc env os s q l F r h =
       let m = g .end-for pc q l in
       let e : rowAt t (bodyOf t pc) ≡ for (m .0) (m .1) (m .2) (m .3) (m .4) = sym (Tables.row-at t (bodyOf t pc) (Tables.for-kind t S (bodyOf t pc) m .0)) ∙ m .5 in
@@ -414,7 +424,7 @@ module _ (t : List ℕ) (S : Structure t) where
       (condition (m .4) (update (m .3) (env (bodyOf t pc)) (env (m .1))) (env (m .2))) refl r
       (ap (λ (z : Row). endBy z t (bodyOf t pc) pc env os) (sym e) ∙ h)
   one-step (out x) pc env os s q l F r h =
-      move pc (Reading.at (suc pc) env os) r s h (quiet pc env os s F l (λ m. let k = m .5 in let z : _≡_ {A = ℕ} 0 1 = cc in omega arith) (λ e. let z : _≡_ {A = ℕ} 0 1 = cc in omega arith) (ap (plainRow tb g) q))
+      move pc os (Reading.at (suc pc) env os) r s h (quiet pc env os s F l (λ m. let k = m .5 in let z : _≡_ {A = ℕ} 0 1 = cc in omega arith) (λ e. let z : _≡_ {A = ℕ} 0 1 = cc in omega arith) (ap (plainRow tb g) q))
   one-step unknown pc env os s q l F r h = let k = Tables.row-kind t S pc l in let e : Tables.rowKind (tb .row pc) ≡ 9 = ap Tables.rowKind q in let m = S .kinds pc l in absurd (omega arith)
 
   -- a reading stops at a row only for a zero step

@@ -11,6 +11,7 @@
 --   no-run-completes-a-fault          so no run, whatever its list and allowance, answers COMPLETE there
 --   rest-bounds-the-reading           where an order rests after F firings, the reading comes to an outcome, within a number of steps that F fixes
 --   endless-reading-never-rests       so where the reading comes to no outcome, no order rests
+--   turns-are-firings                 where an order rests after F firings, the reading has made at most F turns
 --   complete-means-the-reading        an order that rests COMPLETE does so with the words of a reading that ends
 --   zero-step-means-the-reading       an order that rests in ZERO STEP does so where the reading meets a zero step
 --   rest-is-never-stranded            no order rests STRANDED
@@ -55,6 +56,7 @@ use Rattle.table.specs.Check.{tableRefusal, answer}
 use Rattle.structure.specs.Structure.{Structure, passing-table-has-structure}
 use Rattle.reading.specs.Reading.{Opening, Outcome, ended, zeroStep, begin, readFrom, read, resultsFrom}
 use Rattle.reading.specs.Outcome.{Reads}
+use Rattle.reading.specs.Within.{turnsMade, openingsOf}
 use Rattle.lowered.specs.Gathered.{position}
 use Rattle.lowered.specs.Roles.{stream, gate, output, sameRole}
 use Rattle.lowered.specs.Lower.{roles, wireNumber, loweredWords}
@@ -64,7 +66,7 @@ use Rattle.faithful.specs.Conditions.{turnsOf, turns-reverse, rawOf, gat
 use Rattle.faithful.specs.Tables.{tableOf, for-row, for-kind}
 use Rattle.faithful.specs.Sound.{passing-is-good}
 use Rattle.faithful.specs.Following.{Ended, Faulted, followed}
-use Rattle.faithful.specs.Endless.{Far, outcome-or-far, enough-steps}
+use Rattle.faithful.specs.Endless.{Bounded, Far, outcome-or-far, enough-steps}
 use Rattle.faithful.specs.Finish.{finished, rests}
 use Rattle.faithful.specs.Places.{laid}
 use Rattle.faithful.specs.Order.{first-state, follows-first, order-shows}
@@ -286,26 +288,31 @@ module _ (t : List ℕ) (checked : checkAnswer t .number ≡ 0) where
       let z = zero-step-is-never-complete inputs L openings r (madeBy (loweredWords t) list (loadedTable t inputs) allowance) (runOf (loweredWords t) list (loadedTable t inputs) allowance .state) (m .0) (m .1) in
       let y : COMPLETE ≡ ZERO-STEP = sym c ∙ z in omega arith
 
-  -- ---- no outcome
+  -- ---- an order that rests bounds the reading
+
+  -- the firings that follow the reading for k steps are no more than those of an order that rests
+  no-longer : (inputs order u : List ℕ) → Fires (loweredWords t) order (loadedTable t inputs) u → AtRest (loweredWords t) u
+      → (k : ℕ) → (x : Far t S k (begin t inputs) (first-state t S ok inputs)) × (length (x .path) ≤ length order)
+  no-longer inputs order u q h k =
+      let x = outcome-or-far t S k (begin t inputs) (first-state t S ok inputs) (follows-first t S ok inputs) in
+      let y = order-shows t S ok inputs (x .path) (x .there) (x .steps) in
+      let a = every-order-rests-alike (loweredWords t) ok order (loadedTable t inputs) u q h (y .0 .order) (y .0 .state) (y .0 .fires) .at-most in
+      let b = y .1 in
+      (x, omega arith)
 
   -- Where an order rests after F firings, (F + 1) times (rows + 1) steps bring the reading to an outcome: else the order that follows the reading
   -- would be longer.
   pub rest-bounds-the-reading : (inputs order u : List ℕ) → Fires (loweredWords t) order (loadedTable t inputs) u → AtRest (loweredWords t) u
       → (o : Outcome) × (read (suc (length order) * suc (size t)) t inputs ≡ some o)
   unfolding read begin
-  rest-bounds-the-reading inputs order u q h = go (outcome-or-far t S K (begin t inputs) (first-state t S ok inputs) (follows-first t S ok inputs))
+  rest-bounds-the-reading inputs order u q h = let x = no-longer inputs order u q h K in go (x .0 .many) (x .1)
     where
       K : ℕ
       K = suc (length order) * suc (size t)
 
-      go : ((o : Outcome) × (readFrom K t (begin t inputs) ≡ some o)) ⊎ Far t S K (begin t inputs) (first-state t S ok inputs) → (o : Outcome) × (readFrom K t (begin t inputs) ≡ some o)
-      go (inl x) = x
-      go (inr x) =
-          let y = order-shows t S ok inputs (x .path) (x .there) (x .steps) in
-          let a = every-order-rests-alike (loweredWords t) ok order (loadedTable t inputs) u q h (y .0 .order) (y .0 .state) (y .0 .fires) .at-most in
-          let b = y .1 in
-          let c = enough-steps (size t) (length order) (length (x .path)) (let e = x .many in omega arith) in
-          absurd (omega arith)
+      go : {n : ℕ} → Bounded t K (begin t inputs) n → n ≤ length order → (o : Outcome) × (readFrom K t (begin t inputs) ≡ some o)
+      go (inl x) l = (x .0, x .1)
+      go {n} (inr x) l = let c = enough-steps (size t) (length order) n (let e = x .1 in omega arith) in absurd (omega arith)
 
   -- A reading that no number of steps brings to an outcome: no order rests.
   pub endless-reading-never-rests : (inputs : List ℕ) → ((k : ℕ) → read k t inputs ≡ none)
@@ -314,6 +321,21 @@ module _ (t : List ℕ) (checked : checkAnswer t .number ≡ 0) where
       let x = rest-bounds-the-reading inputs order u q h in
       let e : none ≡ some (x .0) = sym (endless (suc (length order) * suc (size t))) ∙ x .1 in
       let z : _≡_ {A = ℕ} 0 1 = cc in omega arith
+
+  -- Where an order rests after F firings, the reading has made at most F turns: each turn has a firing of its loop's STREAM of its own.
+  pub turns-are-firings : (inputs order u : List ℕ) → Fires (loweredWords t) order (loadedTable t inputs) u → AtRest (loweredWords t) u
+      → (o : Outcome) → Reads t inputs o → turnsMade (openingsOf o) ≤ length order
+  unfolding read begin turnsMade
+  turns-are-firings inputs order u q h o r = let x = no-longer inputs order u q h (r .steps) in go (x .0 .many) (x .1)
+    where
+      go : {n : ℕ} → Bounded t (r .steps) (begin t inputs) n → n ≤ length order → turnsMade (openingsOf o) ≤ length order
+      go (inl x) l =
+          let e : some (x .0) ≡ some o = sym (x .1) ∙ r .comes in
+          let f : x .0 ≡ o = cc in
+          let a = ap (λ (z : Outcome). turnsMade (openingsOf z)) f in
+          let b = x .2 in
+          omega arith
+      go (inr x) l = let e : none ≡ some o = sym (x .0) ∙ r .comes in let z : _≡_ {A = ℕ} 0 1 = cc in absurd (omega arith)
 
   -- An order that rests COMPLETE: the reading ends, and its words are the order's.
   pub complete-means-the-reading : (inputs order u : List ℕ) → Fires (loweredWords t) order (loadedTable t inputs) u → AtRest (loweredWords t) u
