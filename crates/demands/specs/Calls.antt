@@ -33,7 +33,7 @@ use Rattle.state.specs.Run.{SPENT, ZERO-STEP}
 use Rattle.machine.specs.Entries.{loadRefusal, loadState, LoadAnswer, fireRefusal, fireState, firedNumber, firedFlag, FireAnswer}
 use Rattle.machine.specs.declared.Fired.{Fired}
 use Rattle.machine.specs.declared.Fired.the-variants.{NotReady, Done}
-use Rattle.run.specs.Entry.{orderBelow, runRefusal, runState, runAnswer, ranNumber, ranOutcome}
+use Rattle.run.specs.Entry.{orderBelow, runRefusal, runState, runAnswer, ranNumber, ranOutcome, ranFirings}
 use Rattle.run.specs.Numbers.{run-number, RunAnswer, run-answers}
 use Rattle.run.specs.declared.Ran.{Ran}
 use Rattle.run.specs.declared.Ran.the-variants.{Refused, Complete, ZeroStep, Stranded}
@@ -43,14 +43,15 @@ use Rattle.confluence.specs.Statements.{Fires, AtRest, madeBy}
 use Rattle.legality.specs.Legality.{Words}
 use Rattle.table.specs.Rows.{size, INPUT}
 use Rattle.table.specs.Counted.{rowsOf}
-use Rattle.reading.specs.Reading.{Opening, ended, zeroStep}
+use Rattle.reading.specs.Reading.{Opening, Outcome, ended, zeroStep}
 use Rattle.reading.specs.Outcome.{Reads}
+use Rattle.reading.specs.Within.{turnsMade, openingsOf}
 use Rattle.lowered.specs.Lower.{loweredWords}
 use Rattle.lowered.specs.Room.{checkAnswer, lowerAnswer, lentAfter}
 use Rattle.lowering.specs.Answers.{LowerAnswer}
 use Rattle.faithful.specs.Endings.{AsRead}
 use Rattle.faithful.specs.Statements.{EndsAsRead, ConditionsTold, FaultNamed, loadedTable, lowered-table-means-its-reading}
-use Rattle.demands.specs.Rehearsal.{Graph, graph-is-lowered, lowered-is-checked, only-the-list-is-refused, loaded-is, rehearsal-is-the-reading, rehearsal-meets-the-fault, complete-is-the-reading, zero-step-run-is-the-reading, run-is-never-stranded, run-is-not-refused, as-many-inputs}
+use Rattle.demands.specs.Rehearsal.{Graph, graph-is-lowered, lowered-is-checked, only-the-list-is-refused, loaded-is, rehearsal-is-the-reading, rehearsal-meets-the-fault, complete-is-the-reading, zero-step-run-is-the-reading, run-is-never-stranded, run-is-not-refused, turns-are-made, as-many-inputs}
 
 pub record Called (t lent inputs s list : List ℕ) (a : ℕ) (q : Ran) (end : List ℕ) : Type 0 where
   pub row : ℕ
@@ -161,6 +162,13 @@ module _ (t inputs : List ℕ) where
   calls-are-never-stranded lent s list a F q end c e =
       run-is-never-stranded t inputs lent (written-by t lent inputs s list a q end c) s list a (load-passes t lent inputs s list a q end c) (run-passes t lent inputs s list a q end c) F
       (sym (answered t lent inputs s list a q end c) ∙ e)
+
+  -- no more turns than firings
+  pub called-turns : (lent s list : List ℕ) (a : ℕ) (q : Ran) (end : List ℕ) → Called t lent inputs s list a q end → ranOutcome q .answer ≢ SPENT
+      → (o : Outcome) → Reads t inputs o → turnsMade (openingsOf o) ≤ ranFirings q
+  called-turns lent s list a q end c =
+      turns-are-made t inputs lent (written-by t lent inputs s list a q end c) s list a (load-passes t lent inputs s list a q end c) (run-passes t lent inputs s list a q end c) q
+      (sym (answered t lent inputs s list a q end c))
 
   -- such calls are told no refusal
   pub calls-are-not-refused : (lent s list : List ℕ) (a n : ℕ) (q : Ran) (end : List ℕ) → Called t lent inputs s list a q end → q ≢ Refused n

@@ -5,7 +5,7 @@
 --   ended-means-every-order-of-calls      so does every order of calls of `fire`
 --   ended-means-complete-calls            and three calls lower, load, run with enough allowance are answered COMPLETE and leave those words
 --   read-inputs-are-loaded, read-tables-are-called        there are such calls: `load` takes the inputs that read_plain takes
---   complete-calls-mean-ended             and back: where such calls are answered COMPLETE there is a T; read_plain is ended with T turns and writes the words
+--   complete-calls-mean-ended             and back: where such calls are answered COMPLETE with F firings there is a T of at most F; read_plain is ended with T turns and writes the words
 --                                         that the calls left where T or more are allowed, and spent where fewer are
 --   rest-means-an-answer                  so where any order rests: ended with the words that it left, or the zero step that it waits with
 --   called-is-not-refused                 read_plain refuses no table and inputs that such calls took, if it is lent a word for each OUT row
@@ -22,7 +22,7 @@
 use Prim.{Unit, tt}
 use Prim.Native.Nat.{ℕ, suc, _*_, _≤_, _<_}
 use mathlib.Core.Path.{_≡_, refl, sym, ap, ap₂, _∙_, subst}
-use mathlib.Core.Logic.{_⊎_, inl, inr}
+use mathlib.Core.Logic.{_≢_, _⊎_, inl, inr}
 use mathlib.Core.Bool.{true}
 use mathlib.Core.Option.{Option, none, some}
 use mathlib.Core.List.{List, [], _∷_, _++_}
@@ -30,9 +30,9 @@ use native.Mathlib.Omega.{arith}
 use native.Mathlib.Decide.{decLe}
 use lib.ListN.{length, drop}
 use Rattle.state.specs.Legal.{rightLength}
-use Rattle.state.specs.Run.{SPENT, ZERO-STEP, outcome}
+use Rattle.state.specs.Run.{SPENT, COMPLETE, ZERO-STEP, outcome}
 use Rattle.machine.specs.Entries.{loadRefusal, loadState}
-use Rattle.run.specs.Entry.{orderBelow, runState, runAnswer, ranOutcome}
+use Rattle.run.specs.Entry.{orderBelow, runState, runAnswer, ranOutcome, ranFirings}
 use Rattle.run.specs.declared.Ran.{Ran}
 use Rattle.run.specs.declared.Ran.the-variants.{Complete, Stranded, Refused as RunRefused, ZeroStep as RunZeroStep, Spent as RunSpent}
 use Rattle.confluence.specs.Statements.{Fires, AtRest}
@@ -52,10 +52,10 @@ use Rattle.lowered.specs.Lower.{loweredWords}
 use Rattle.lowered.specs.Room.{checkAnswer, lowerAnswer}
 use Rattle.laid.specs.Answers.{passed-check}
 use Rattle.faithful.specs.Endings.{AsRead}
-use Rattle.faithful.specs.Statements.{loadedTable, Faithful, EndsAsRead, FaultNamed, lowered-table-means-its-reading, zero-step-is-named, rest-bounds-the-reading, endless-reading-never-rests}
+use Rattle.faithful.specs.Statements.{loadedTable, Faithful, EndsAsRead, FaultNamed, lowered-table-means-its-reading, zero-step-is-named, rest-bounds-the-reading, endless-reading-never-rests, turns-are-firings}
 use Rattle.faithful.specs.NotIdle.{stayTable, stay-is-checked, stay-reads-for-ever}
 use Rattle.demands.specs.Rehearsal.{Graph, lowered-is-checked, inputs-are-loaded}
-use Rattle.demands.specs.Calls.{Called, CallsAsRead, FireCalls, NoneReady, calls-go-through, calls-rehearse-the-reading, calls-meet-the-fault, complete-calls-read, zero-step-calls-read, calls-are-never-stranded, calls-are-not-refused, called-is-checked, called-with-the-inputs, fire-calls-rehearse-the-reading}
+use Rattle.demands.specs.Calls.{Called, CallsAsRead, FireCalls, NoneReady, calls-go-through, calls-rehearse-the-reading, calls-meet-the-fault, complete-calls-read, zero-step-calls-read, calls-are-never-stranded, calls-are-not-refused, called-turns, called-is-checked, called-with-the-inputs, fire-calls-rehearse-the-reading}
 
 -- What read_plain answers and leaves where calls have left the state `end` and T turns are needed: the words of that state's results, and the rest stays.
 pub record EndsWith (t room end : List ℕ) (T : ℕ) (r : Plain) (after : List ℕ) : Type 0 where
@@ -154,12 +154,19 @@ module _ (t inputs : List ℕ) where
         rest = z .first ∙ ap₂ {C = List ℕ} (λ (u : List ℕ) (v : ℕ). u ++ drop v room) (sym (z .written)) (z .one-each);
       }
 
+  -- the turns of the reading are at most the firings told
+  made-by : (lent s list : List ℕ) (a : ℕ) (q : Ran) (end : List ℕ) → Called t lent inputs s list a q end → (F : ℕ) → ranFirings q ≡ F → ranOutcome q .answer ≢ SPENT
+      → (o : Outcome) → Reads t inputs o → turnsMade (openingsOf o) ≤ F
+  made-by lent s list a q end c F f n o r = let b = called-turns t inputs lent s list a q end c n o r in omega arith
+
   pub complete-calls-mean-ended : (lent s list : List ℕ) (a F : ℕ) (q : Ran) (end : List ℕ) → Called t lent inputs s list a q end → q ≡ Complete F
-      → (T : ℕ) × ((room : List ℕ) → rowsOf OUT t (size t) ≤ length room → (A : ℕ) (r : Plain) (after : List ℕ) → PlainAnswer t inputs room A r after
+      → (T : ℕ) × (T ≤ F)
+      × ((room : List ℕ) → rowsOf OUT t (size t) ≤ length room → (A : ℕ) (r : Plain) (after : List ℕ) → PlainAnswer t inputs room A r after
       → (T ≤ A → EndsWith t room end T r after) × (A < T → (r ≡ Spent A) × (after ≡ room)))
   complete-calls-mean-ended lent s list a F q end c e =
       let y = complete-calls-read t inputs lent s list a F q end c e in (
         turnsMade (y .1),
+        made-by lent s list a q end c F (ap ranFirings e) (λ z. let k : COMPLETE ≡ SPENT = sym (ap (λ (x : Ran). ranOutcome x .answer) e) ∙ z in omega arith) (ended (y .0) (y .1)) (y .2),
         λ room l A r after p.
             let f = called-is-not-refused room l lent s list a q end c in (
               ends-with (y .0) (y .1) (y .2) end (y .3) room f A r after p,
@@ -169,7 +176,7 @@ module _ (t inputs : List ℕ) where
 
   -- an order that rests: ended with the words that it left, or a zero step that it waits with
   pub rest-means-an-answer : (lent : List ℕ) → lowerAnswer t (length lent) .number ≡ 0 → (order u : List ℕ) → Fires (loweredWords t) order (loadedTable t inputs) u → AtRest (loweredWords t) u
-      → (T : ℕ) × ((room : List ℕ) → Fit t inputs (length room) → (A : ℕ) (r : Plain) (after : List ℕ) → PlainAnswer t inputs room A r after → T ≤ A
+      → (T : ℕ) × (T ≤ length order) × ((room : List ℕ) → Fit t inputs (length room) → (A : ℕ) (r : Plain) (after : List ℕ) → PlainAnswer t inputs room A r after → T ≤ A
       → EndsWith t room u T r after ⊎ ((L : ℕ) × (r ≡ ZeroStep L T) × FaultNamed t L u (outcome (loweredWords t) u)))
   rest-means-an-answer lent w order u q h =
       let k = lowered-is-checked t lent w in
@@ -177,14 +184,16 @@ module _ (t inputs : List ℕ) where
       go k (x .0) (record { steps = suc (length order) * suc (size t); comes = x .1 })
     where
       go : checkAnswer t .number ≡ 0 → (o : Outcome) → Reads t inputs o
-          → (T : ℕ) × ((room : List ℕ) → Fit t inputs (length room) → (A : ℕ) (r : Plain) (after : List ℕ) → PlainAnswer t inputs room A r after → T ≤ A
+          → (T : ℕ) × (T ≤ length order) × ((room : List ℕ) → Fit t inputs (length room) → (A : ℕ) (r : Plain) (after : List ℕ) → PlainAnswer t inputs room A r after → T ≤ A
           → EndsWith t room u T r after ⊎ ((L : ℕ) × (r ≡ ZeroStep L T) × FaultNamed t L u (outcome (loweredWords t) u)))
       go k (ended words openings) x = (
         turnsMade openings,
+        turns-are-firings t k inputs order u q h (ended words openings) x,
         λ room f A r after p l. inl (ends-with words openings x u (lowered-table-means-its-reading t k inputs words openings x .1 order u q .ends h .state) room f A r after p l),
       )
       go k (zeroStep L openings) x = (
         turnsMade openings,
+        turns-are-firings t k inputs order u q h (zeroStep L openings) x,
         λ room f A r after p l. inr (L, the-reading-is-a-zero-step t inputs room A f L openings x l r after p .0, zero-step-is-named t k inputs L openings x order u q h),
       )
 
@@ -199,13 +208,14 @@ module _ (t inputs : List ℕ) where
       let e = zero-step-is-the-reading t inputs room A L T after p in zero-step-is-named t (lowered-is-checked t lent w) inputs L (e .openings) (e .reads)
 
   pub zero-step-calls-mean-a-zero-step : (lent s list : List ℕ) (a F i : ℕ) (q : Ran) (end : List ℕ) → Called t lent inputs s list a q end → q ≡ RunZeroStep F i
-      → (L : ℕ) × (T : ℕ) × FaultNamed t L end (ranOutcome q)
+      → (L : ℕ) × (T : ℕ) × (T ≤ F) × FaultNamed t L end (ranOutcome q)
       × ((room : List ℕ) → rowsOf OUT t (size t) ≤ length room → (A : ℕ) (r : Plain) (after : List ℕ) → PlainAnswer t inputs room A r after
       → (T ≤ A → (r ≡ ZeroStep L T) × (after ≡ room)) × (A < T → (r ≡ Spent A) × (after ≡ room)))
   zero-step-calls-mean-a-zero-step lent s list a F i q end c e =
       let y = zero-step-calls-read t inputs lent s list a F i q end c e in (
         y .0,
         turnsMade (y .1),
+        made-by lent s list a q end c F (ap ranFirings e) (λ z. let k : ZERO-STEP ≡ SPENT = sym (ap (λ (x : Ran). ranOutcome x .answer) e) ∙ z in omega arith) (zeroStep (y .0) (y .1)) (y .2),
         y .3,
         λ room l A r after p.
             let f = called-is-not-refused room l lent s list a q end c in (

@@ -11,6 +11,7 @@
 --   rehearsal-meets-the-fault     where it meets a zero step, every run is SPENT or leaves the STREAM of that loop waiting with it, and answers ZERO STEP
 --   complete-is-the-reading       a run that answers COMPLETE: the plain reading ends, and the run has left its words and nothing else
 --   zero-step-run-is-the-reading      one that answers ZERO STEP: the plain reading meets a zero step; run-is-never-stranded: none answers STRANDED
+--   turns-are-made                the reading has made no more turns than such a run has made firings
 --   as-many-inputs                `load` takes as many inputs as the table has INPUT rows; inputs-are-loaded: those it takes, in a state of the right length
 --
 -- Assumes nothing.
@@ -32,7 +33,7 @@ use Rattle.state.specs.Load.{inputCount, loaded}
 use Rattle.state.specs.Run.{COMPLETE, ZERO-STEP, STRANDED, SPENT, Outcome, outcome}
 use Rattle.machine.specs.Entries.{first, stateRefusal, loadRefusal, loadState}
 use Rattle.machine.proofs.Answers.{first-zero}
-use Rattle.run.specs.Entry.{orderBelow, runRefusal, runAt, runState, runFirings, ranBy, runAnswer, ranOutcome}
+use Rattle.run.specs.Entry.{orderBelow, runRefusal, runAt, runState, runFirings, ranBy, runAnswer, ranOutcome, ranFirings}
 use Rattle.run.specs.Numbers.{ran-shown}
 use Rattle.run.specs.declared.Ran.{Ran}
 use Rattle.run.specs.declared.Ran.the-variants.{Complete, Refused, ZeroStep, Stranded, Spent}
@@ -42,14 +43,16 @@ use Rattle.answers.specs.Answers.{load-leaves-right}
 use Rattle.table.specs.Rows.{size, INPUT}
 use Rattle.table.specs.Counted.{rowsOf}
 use Rattle.reading.specs.Reading.{Opening, ended, zeroStep}
+use Rattle.reading.specs.Reading
 use Rattle.reading.specs.Outcome.{Reads}
+use Rattle.reading.specs.Within.{turnsMade, openingsOf}
 use Rattle.lowered.specs.Lower.{loweredWords}
 use Rattle.lowered.specs.Room.{checkAnswer, lowerRefusal, lowerAnswer, lentAfter}
 use Rattle.laid.specs.Accepts.{inputs-are-the-rows}
 use Rattle.laid.specs.Answers.{success-writes-the-graph-first, written-graph-is-accepted, written-graph-fits}
 use Rattle.laid.specs.Limits.{lowered-words}
 use Rattle.faithful.specs.Endings.{AsRead}
-use Rattle.faithful.specs.Statements.{loadedTable, ConditionsTold, FaultNamed, written-table-is-checked, lowered-table-means-its-reading, every-run-is-complete, zero-step-is-named, zero-step-means-the-reading, rest-is-never-stranded, complete-run-means-the-reading}
+use Rattle.faithful.specs.Statements.{loadedTable, ConditionsTold, FaultNamed, written-table-is-checked, lowered-table-means-its-reading, every-run-is-complete, zero-step-is-named, zero-step-means-the-reading, rest-is-never-stranded, complete-run-means-the-reading, turns-are-firings}
 
 -- the words that `lower` has written
 abbrev pub Graph : List ℕ → List ℕ → List ℕ
@@ -225,6 +228,18 @@ module _ (t inputs lent : List ℕ) (w : lowerAnswer t (length lent) .number ≡
         let c = answer-shows (Stranded F) e in
         let o = run-is-an-order (loweredWords t) list (loadedTable t inputs) a (λ z. let y : STRANDED ≡ SPENT = sym c ∙ z in omega arith) in
         rest-is-never-stranded t (lowered-is-checked t lent w) inputs (madeBy (loweredWords t) list (loadedTable t inputs) a) (end t lent w inputs s loads list a runs) (o .0) (o .1) c
+
+    -- and the reading has made no more turns than it has firings
+    pub turns-are-made : (q : Ran) → runAnswer (Graph t lent) (loadState (Graph t lent) inputs s) list a ≡ q → ranOutcome q .answer ≢ SPENT
+        → (o : Reading.Outcome) → Reads t inputs o → turnsMade (openingsOf o) ≤ ranFirings q
+    turns-are-made q e n o r =
+        let x = run-is-an-order (loweredWords t) list (loadedTable t inputs) a (λ z. n (sym (answer-shows q e) ∙ z)) in
+        let b = turns-are-firings t (lowered-is-checked t lent w) inputs (madeBy (loweredWords t) list (loadedTable t inputs) a) (end t lent w inputs s loads list a runs) (x .0) (x .1) o r in
+        let f = ap ranFirings (sym e ∙ answer-is t lent w inputs s loads list a runs) ∙ ran-shown (loweredWords t) (end t lent w inputs s loads list a runs) (made t lent w inputs s loads list a runs) .2 in
+        firings-are (runOf (loweredWords t) list (loadedTable t inputs) a .left) (x .2) f b
+      where
+        firings-are : {k f m : ℕ} (l : ℕ) → k + l ≡ a → f ≡ a - l → m ≤ k → m ≤ f
+        firings-are l p q r = omega arith
 
     -- nor is it refused
     pub run-is-not-refused : (n : ℕ) → runAnswer (Graph t lent) (loadState (Graph t lent) inputs s) list a ≢ Refused n

@@ -88,7 +88,7 @@ module _ (t : List ℕ) where
   result-words env k q h = results-along t env (size t) 0 k q (ap (λ (l : List ℕ). getElem? l k) (sym outs-are) ∙ h)
 
   pub results-counted : (env : Env) → length (resultsFrom (size t) t env 0) ≡ resultCount (loweredWords t)
-  unfolding resultTotal
+  unfolding resultTotal outRows
   results-counted env = results-are-rows t env ∙ sym (rows-counted OUT t (size t)) ∙ sym (result-count t)
 
 -- ---- every test holds
