@@ -332,7 +332,11 @@ fn put_agreed(out: &mut [u8], plain: Plain) -> usize
     if has_ended(plain) {
         return text::put(out, b, b" with the same results\n");
     }
-    text::put_letter(out, b, b'\n')
+    text::put(
+        out,
+        b,
+        b"; the graph goes on beside it, and may name another loop\n",
+    )
 }
 
 // A SPENT side says nothing of the other.
