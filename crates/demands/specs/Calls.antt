@@ -8,6 +8,9 @@
 --   calls-meet-the-fault          where it meets a zero step, they are answered SPENT, or ZERO STEP with the lowest STREAM that waits with a zero step,
 --                                 and the STREAM of that loop is one
 --   complete-calls-read           where they are answered COMPLETE, the reading ends, and the state holds its words and nothing else
+--   zero-step-calls-read          where they are answered ZERO STEP, the reading meets a zero step, as calls-meet-the-fault names it
+--   calls-are-never-stranded      they are never answered STRANDED; calls-are-not-refused: nor with a refusal
+--   called-is-checked, called-with-the-inputs     such calls have passed the table's check, with as many inputs as INPUT rows
 --   FireCalls                     calls of `fire` one after another, each answered that the node has fired
 --   fire-calls-are-firings        they are firings of the rule, in that order
 --   fire-calls-rehearse-the-reading   so every order that a caller makes of them, until no node is ready, is F long and ends in the same state
@@ -15,7 +18,7 @@
 -- Assumes nothing.
 use Prim.Native.Nat.{ℕ, _≤_, _<_}
 use mathlib.Core.Path.{_≡_, refl, sym, ap, ap₂, _∙_, subst, subst₂}
-use mathlib.Core.Logic.{_⊎_}
+use mathlib.Core.Logic.{_⊎_, inl, inr, _≢_}
 use mathlib.Core.Bool.{Bool, true, false}
 use mathlib.Core.List.{List, [], _∷_}
 use mathlib.Core.Option.{Option, none, some}
@@ -26,18 +29,20 @@ use lib.ListN.{length, take}
 use Rattle.word.specs.Words.{pick}
 use Rattle.graph.specs.Graph.{nodeCount}
 use Rattle.state.specs.Net.{netOf, fire, isReady, orElse}
-use Rattle.state.specs.Run.{SPENT}
+use Rattle.state.specs.Run.{SPENT, ZERO-STEP}
 use Rattle.machine.specs.Entries.{loadRefusal, loadState, LoadAnswer, fireRefusal, fireState, firedNumber, firedFlag, FireAnswer}
 use Rattle.machine.specs.declared.Fired.{Fired}
 use Rattle.machine.specs.declared.Fired.the-variants.{NotReady, Done}
 use Rattle.run.specs.Entry.{orderBelow, runRefusal, runState, runAnswer, ranNumber, ranOutcome}
 use Rattle.run.specs.Numbers.{run-number, RunAnswer, run-answers}
 use Rattle.run.specs.declared.Ran.{Ran}
-use Rattle.run.specs.declared.Ran.the-variants.{Complete}
+use Rattle.run.specs.declared.Ran.the-variants.{Refused, Complete, ZeroStep, Stranded}
 use Rattle.confluence.specs.Orders.{fires-none, fires-on}
 use Rattle.confluence.specs.Graphs.{none-past-last}
 use Rattle.confluence.specs.Statements.{Fires, AtRest, madeBy}
 use Rattle.legality.specs.Legality.{Words}
+use Rattle.table.specs.Rows.{size, INPUT}
+use Rattle.table.specs.Counted.{rowsOf}
 use Rattle.reading.specs.Reading.{Opening, ended, zeroStep}
 use Rattle.reading.specs.Outcome.{Reads}
 use Rattle.lowered.specs.Lower.{loweredWords}
@@ -45,7 +50,7 @@ use Rattle.lowered.specs.Room.{checkAnswer, lowerAnswer, lentAfter}
 use Rattle.lowering.specs.Answers.{LowerAnswer}
 use Rattle.faithful.specs.Endings.{AsRead}
 use Rattle.faithful.specs.Statements.{EndsAsRead, ConditionsTold, FaultNamed, loadedTable, lowered-table-means-its-reading}
-use Rattle.demands.specs.Rehearsal.{Graph, graph-is-lowered, lowered-is-checked, only-the-list-is-refused, loaded-is, rehearsal-is-the-reading, rehearsal-meets-the-fault, complete-is-the-reading}
+use Rattle.demands.specs.Rehearsal.{Graph, graph-is-lowered, lowered-is-checked, only-the-list-is-refused, loaded-is, rehearsal-is-the-reading, rehearsal-meets-the-fault, complete-is-the-reading, zero-step-is-the-reading, run-is-never-stranded, run-is-not-refused, as-many-inputs}
 
 pub record Called (t lent inputs s list : List ℕ) (a : ℕ) (q : Ran) (end : List ℕ) : Type 0 where
   pub row : ℕ
@@ -138,6 +143,37 @@ module _ (t inputs : List ℕ) where
       let x = complete-is-the-reading t inputs lent (written-by t lent inputs s list a q end c) s list a F (load-passes t lent inputs s list a q end c) (run-passes t lent inputs s list a q end c)
       (sym (answered t lent inputs s list a q end c) ∙ e) in
       (x .0, x .1, x .2, subst (AsRead t (x .0)) (sym (left t lent inputs s list a q end c)) (x .3))
+
+  -- ZERO STEP
+  pub zero-step-calls-read : (lent s list : List ℕ) (a F i : ℕ) (q : Ran) (end : List ℕ) → Called t lent inputs s list a q end → q ≡ ZeroStep F i
+      → (L : ℕ) × (openings : List Opening) × Reads t inputs (zeroStep L openings) × FaultNamed t L end (ranOutcome q)
+  zero-step-calls-read lent s list a F i q end c e =
+      let x = zero-step-is-the-reading t inputs lent (written-by t lent inputs s list a q end c) s list a (load-passes t lent inputs s list a q end c) (run-passes t lent inputs s list a q end c) F i
+      (sym (answered t lent inputs s list a q end c) ∙ e) in
+      (x .0, x .1, x .2, named (x .0) (calls-meet-the-fault (x .0) (x .1) (x .2) lent s list a q end c))
+    where
+      named : (L : ℕ) → (ranOutcome q .answer ≡ SPENT) ⊎ FaultNamed t L end (ranOutcome q) → FaultNamed t L end (ranOutcome q)
+      named L (inl z) = let y : ZERO-STEP ≡ SPENT = sym (ap (λ (x : Ran). ranOutcome x .answer) e) ∙ z in absurd (omega arith)
+      named L (inr f) = f
+
+  -- OR STRANDED
+  pub calls-are-never-stranded : (lent s list : List ℕ) (a F : ℕ) (q : Ran) (end : List ℕ) → Called t lent inputs s list a q end → q ≢ Stranded F
+  calls-are-never-stranded lent s list a F q end c e =
+      run-is-never-stranded t inputs lent (written-by t lent inputs s list a q end c) s list a (load-passes t lent inputs s list a q end c) (run-passes t lent inputs s list a q end c) F
+      (sym (answered t lent inputs s list a q end c) ∙ e)
+
+  -- such calls are told no refusal
+  pub calls-are-not-refused : (lent s list : List ℕ) (a n : ℕ) (q : Ran) (end : List ℕ) → Called t lent inputs s list a q end → q ≢ Refused n
+  calls-are-not-refused lent s list a n q end c e =
+      run-is-not-refused t inputs lent (written-by t lent inputs s list a q end c) s list a (load-passes t lent inputs s list a q end c) (run-passes t lent inputs s list a q end c) n
+      (sym (answered t lent inputs s list a q end c) ∙ e)
+
+  -- What such calls have passed: the table's check, and as many inputs as INPUT rows.
+  pub called-is-checked : (lent s list : List ℕ) (a : ℕ) (q : Ran) (end : List ℕ) → Called t lent inputs s list a q end → checkAnswer t .number ≡ 0
+  called-is-checked lent s list a q end c = lowered-is-checked t lent (written-by t lent inputs s list a q end c)
+
+  pub called-with-the-inputs : (lent s list : List ℕ) (a : ℕ) (q : Ran) (end : List ℕ) → Called t lent inputs s list a q end → length inputs ≡ rowsOf INPUT t (size t)
+  called-with-the-inputs lent s list a q end c = as-many-inputs t lent (written-by t lent inputs s list a q end c) inputs s (load-passes t lent inputs s list a q end c)
 
 -- ---- firing by firing
 pub data FireCalls (g : List ℕ) : List ℕ → List ℕ → List ℕ → Type 0 where

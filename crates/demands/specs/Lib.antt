@@ -2,3 +2,4 @@
 pub mod Rehearsal
 pub mod Calls
 pub mod Tables
+pub mod Plain

@@ -10,16 +10,18 @@
 --                                 each opening of N turns
 --   rehearsal-meets-the-fault     where it meets a zero step, every run is SPENT or leaves the STREAM of that loop waiting with it, and answers ZERO STEP
 --   complete-is-the-reading       a run that answers COMPLETE: the plain reading ends, and the run has left its words and nothing else
+--   zero-step-is-the-reading      one that answers ZERO STEP: the plain reading meets a zero step; run-is-never-stranded: none answers STRANDED
+--   as-many-inputs                `load` takes as many inputs as the table has INPUT rows; inputs-are-loaded: those it takes, in a state of the right length
 --
 -- Assumes nothing.
 use Prim.Native.Nat.{ℕ, _+_, _-_, _≤_}
 use mathlib.Core.Path.{_≡_, refl, sym, ap, ap₂, _∙_, subst, subst₂}
-use mathlib.Core.Logic.{_⊎_, inl, inr}
-use mathlib.Core.Bool.{Bool, cond}
+use mathlib.Core.Logic.{_⊎_, inl, inr, _≢_}
+use mathlib.Core.Bool.{Bool, true, false, cond}
 use mathlib.Core.List.{List, [], _∷_, _++_}
 use native.Mathlib.Omega.{arith}
 use native.Mathlib.Decide.{ℕ-discrete}
-use borrow.Author.Tests.{eq-eqb}
+use borrow.Author.Tests.{eq-eqb, eqb-true}
 use lib.Dec.{eqb}
 use lib.ListN.{length, take, drop}
 use lib.Seq.{sets-eq}
@@ -27,22 +29,27 @@ use Rattle.word.specs.Words.{pick}
 use Rattle.graph.specs.Refusal.{graphRefusal}
 use Rattle.state.specs.Legal.{rightLength}
 use Rattle.state.specs.Load.{inputCount, loaded}
-use Rattle.state.specs.Run.{COMPLETE, SPENT, Outcome, outcome}
+use Rattle.state.specs.Run.{COMPLETE, ZERO-STEP, STRANDED, SPENT, Outcome, outcome}
 use Rattle.machine.specs.Entries.{first, stateRefusal, loadRefusal, loadState}
+use Rattle.machine.proofs.Answers.{first-zero}
 use Rattle.run.specs.Entry.{orderBelow, runRefusal, runAt, runState, runFirings, ranBy, runAnswer, ranOutcome}
 use Rattle.run.specs.Numbers.{ran-shown}
-use Rattle.run.specs.declared.Ran.the-variants.{Complete, Refused}
+use Rattle.run.specs.declared.Ran.{Ran}
+use Rattle.run.specs.declared.Ran.the-variants.{Complete, Refused, ZeroStep, Stranded, Spent}
 use Rattle.confluence.specs.Statements.{runOf, madeBy, run-is-an-order}
 use Rattle.legality.specs.Legality.{Words}
 use Rattle.answers.specs.Answers.{load-leaves-right}
+use Rattle.table.specs.Rows.{size, INPUT}
+use Rattle.table.specs.Counted.{rowsOf}
 use Rattle.reading.specs.Reading.{Opening, ended, zeroStep}
 use Rattle.reading.specs.Outcome.{Reads}
 use Rattle.lowered.specs.Lower.{loweredWords}
 use Rattle.lowered.specs.Room.{checkAnswer, lowerRefusal, lowerAnswer, lentAfter}
+use Rattle.laid.specs.Accepts.{inputs-are-the-rows}
 use Rattle.laid.specs.Answers.{success-writes-the-graph-first, written-graph-is-accepted, written-graph-fits}
 use Rattle.laid.specs.Limits.{lowered-words}
 use Rattle.faithful.specs.Endings.{AsRead}
-use Rattle.faithful.specs.Statements.{loadedTable, ConditionsTold, FaultNamed, written-table-is-checked, lowered-table-means-its-reading, every-run-is-complete, zero-step-is-named, complete-run-means-the-reading}
+use Rattle.faithful.specs.Statements.{loadedTable, ConditionsTold, FaultNamed, written-table-is-checked, lowered-table-means-its-reading, every-run-is-complete, zero-step-is-named, zero-step-means-the-reading, rest-is-never-stranded, complete-run-means-the-reading}
 
 -- the words that `lower` has written
 abbrev pub Graph : List ℕ → List ℕ → List ℕ
@@ -88,6 +95,23 @@ module _ (t lent : List ℕ) (written : lowerAnswer t (length lent) .number ≡ 
   only-the-list-is-refused inputs s wt wi loads list =
       let wg = subst Words (sym graph-is-lowered) (lowered-words t lowered-is-checked wt) in
       ap (λ (b : Bool). pick b (pick (orderBelow (Graph t lent) list) 0 18) (stateRefusal (Graph t lent) (loadState (Graph t lent) inputs s))) (eq-eqb _ _ (load-leaves-right (Graph t lent) inputs s wg wi loads))
+
+  -- the inputs are the INPUT rows
+  inputs-counted : inputCount (Graph t lent) ≡ rowsOf INPUT t (size t)
+  inputs-counted = ap inputCount graph-is-lowered ∙ inputs-are-the-rows t
+
+  pub as-many-inputs : (inputs s : List ℕ) → loadRefusal (Graph t lent) inputs s ≡ 0 → length inputs ≡ rowsOf INPUT t (size t)
+  as-many-inputs inputs s h =
+      go (eqb (length inputs) (inputCount (Graph t lent))) refl (first-zero (pick (rightLength (Graph t lent) s) 0 17) _ (sym (only-inputs-are-refused inputs s) ∙ h) .1) ∙ inputs-counted
+    where
+      go : (b : Bool) → eqb (length inputs) (inputCount (Graph t lent)) ≡ b → _≡_ {A = ℕ} (pick b 0 16) 0 → length inputs ≡ inputCount (Graph t lent)
+      go true e z = eqb-true (length inputs) (inputCount (Graph t lent)) e
+      go false e z = let y : _≡_ {A = ℕ} 16 0 = z in absurd (omega arith)
+
+  pub inputs-are-loaded : (inputs s : List ℕ) → length inputs ≡ rowsOf INPUT t (size t) → rightLength (Graph t lent) s ≡ true → loadRefusal (Graph t lent) inputs s ≡ 0
+  inputs-are-loaded inputs s n l =
+      only-inputs-are-refused inputs s
+      ∙ ap₂ (λ (x y : Bool). first (pick x 0 17) (pick y 0 16)) l (eq-eqb (length inputs) (inputCount (Graph t lent)) (n ∙ sym inputs-counted))
 
   -- ---- one call after the other
   module _ (inputs s : List ℕ) (loads : loadRefusal (Graph t lent) inputs s ≡ 0) where
@@ -179,3 +203,38 @@ complete-is-the-reading t inputs lent w s list a F loads runs e =
     ∙ ap (λ x. ranOutcome x .answer) (sym (answer-is t lent w inputs s loads list a runs) ∙ e) in
     let x = complete-run-means-the-reading t (lowered-is-checked t lent w) inputs list a c in
     (x .0, x .1, x .2, subst (AsRead t (x .0)) (sym (state-is t lent w inputs s loads list a runs)) (x .3))
+
+-- WHERE IT ANSWERS ZERO STEP the reading meets one; and none answers STRANDED
+module _ (t inputs lent : List ℕ) (w : lowerAnswer t (length lent) .number ≡ 0) (s list : List ℕ) (a : ℕ) (loads : loadRefusal (Graph t lent) inputs s ≡ 0) where
+  module _ (runs : runRefusal (Graph t lent) (loadState (Graph t lent) inputs s) list ≡ 0) where
+    answer-shows : (q : Ran) → runAnswer (Graph t lent) (loadState (Graph t lent) inputs s) list a ≡ q
+        → outcome (loweredWords t) (end t lent w inputs s loads list a runs) .answer ≡ ranOutcome q .answer
+    answer-shows q e =
+        sym (ap (λ o. o .answer) (ran-shown (loweredWords t) (end t lent w inputs s loads list a runs) (made t lent w inputs s loads list a runs) .1))
+        ∙ ap (λ x. ranOutcome x .answer) (sym (answer-is t lent w inputs s loads list a runs) ∙ e)
+
+    pub zero-step-is-the-reading : (F i : ℕ) → runAnswer (Graph t lent) (loadState (Graph t lent) inputs s) list a ≡ ZeroStep F i
+        → (L : ℕ) × (openings : List Opening) × Reads t inputs (zeroStep L openings)
+    zero-step-is-the-reading F i e =
+        let c = answer-shows (ZeroStep F i) e in
+        let o = run-is-an-order (loweredWords t) list (loadedTable t inputs) a (λ z. let y : ZERO-STEP ≡ SPENT = sym c ∙ z in omega arith) in
+        zero-step-means-the-reading t (lowered-is-checked t lent w) inputs (madeBy (loweredWords t) list (loadedTable t inputs) a) (end t lent w inputs s loads list a runs) (o .0) (o .1) c
+
+    pub run-is-never-stranded : (F : ℕ) → runAnswer (Graph t lent) (loadState (Graph t lent) inputs s) list a ≢ Stranded F
+    run-is-never-stranded F e =
+        let c = answer-shows (Stranded F) e in
+        let o = run-is-an-order (loweredWords t) list (loadedTable t inputs) a (λ z. let y : STRANDED ≡ SPENT = sym c ∙ z in omega arith) in
+        rest-is-never-stranded t (lowered-is-checked t lent w) inputs (madeBy (loweredWords t) list (loadedTable t inputs) a) (end t lent w inputs s loads list a runs) (o .0) (o .1) c
+
+    -- nor is it refused
+    pub run-is-not-refused : (n : ℕ) → runAnswer (Graph t lent) (loadState (Graph t lent) inputs s) list a ≢ Refused n
+    run-is-not-refused n e = never (outcome (loweredWords t) (end t lent w inputs s loads list a runs)) (made t lent w inputs s loads list a runs) (sym (answer-is t lent w inputs s loads list a runs) ∙ e)
+      where
+        shows : (x y z : Bool) (f i : ℕ) → pick x (Spent f) (pick y (Complete f) (pick z (ZeroStep f i) (Stranded f))) ≢ Refused n
+        shows true y z f i e = let u : _≡_ {A = ℕ} 0 1 = cc in omega arith
+        shows false true z f i e = let u : _≡_ {A = ℕ} 0 1 = cc in omega arith
+        shows false false true f i e = let u : _≡_ {A = ℕ} 0 1 = cc in omega arith
+        shows false false false f i e = let u : _≡_ {A = ℕ} 0 1 = cc in omega arith
+
+        never : (o : Outcome) (f : ℕ) → ranBy o f ≢ Refused n
+        never o f = shows (eqb (o .answer) SPENT) (eqb (o .answer) COMPLETE) (eqb (o .answer) ZERO-STEP) f (o .node)

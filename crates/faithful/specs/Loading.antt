@@ -23,6 +23,7 @@ use Rattle.state.specs.Legal.{stateLength}
 use Rattle.state.specs.Load.{startWord, loaded}
 use Rattle.state.specs.Loaded.{loadedAt, loaded-length, loaded-at}
 use Rattle.table.specs.Rows.{kindAt, word, size, INPUT, CONST}
+use Rattle.table.specs.Counted.{rowsOf}
 use Rattle.structure.specs.Structure.{Structure}
 use Rattle.reading.specs.Reading.{firstWords}
 use Rattle.lowered.specs.Gathered.{those, each, position}

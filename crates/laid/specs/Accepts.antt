@@ -1,6 +1,7 @@
 -- WHAT LOWERING WRITES IS ACCEPTED: a table that passes 1 to 9 and has room lowers to a graph that check_graph does not refuse.
 --
 --   inputs-are-numbered               the inputs are numbered 0, 1, .. in order
+--   inputs-are-the-rows               there are as many as INPUT rows
 --   lowered-graph-is-accepted         the facts of an accepted graph
 --   lowered-graph-is-not-refused      graphRefusal is 0
 --
@@ -19,11 +20,12 @@ use lib.ListN.{length, getD, getElem?, length-append}
 use Rattle.word.specs.Words.{flag, pick}
 use Rattle.step.specs.Kinds.{inputSort, Input}
 use Rattle.graph.specs.Below.{total}
-use Rattle.graph.specs.Graph.{nodeCount, wireCount, startKindAt, startWordAt, inputsBefore, resultAt, Node, nodeAt, hasInput, wireOn, inputAt, outputCount, firstAt, sortAt}
+use Rattle.graph.specs.Graph.{nodeCount, wireCount, startCount, startKindAt, startWordAt, inputsBefore, resultAt, Node, nodeAt, hasInput, wireOn, inputAt, outputCount, firstAt, sortAt}
 use Rattle.graph.specs.Refusal.{Shaped, graphRefusal}
 use Rattle.graph.specs.Accepted.{Row, Accepted, input-of-node, node-in-range}
 use Rattle.graph.specs.Enough.{accepted-is-not-refused}
-use Rattle.table.specs.Rows.{kindAt, size}
+use Rattle.table.specs.Rows.{kindAt, size, INPUT}
+use Rattle.table.specs.Counted.{rowsOf}
 use Rattle.table.specs.Check.{tableRefusal, answer}
 use Rattle.structure.specs.Structure.{Structure, passing-table-has-structure}
 use Rattle.lowered.specs.Gathered.{those, each}
@@ -33,6 +35,7 @@ use Rattle.lowered.specs.Room.{inLimits}
 use Rattle.laid.specs.Lists.{there, in-range, has-elem, elem-left, elem-right, none-some}
 use Rattle.laid.specs.Indexed.{total-same, total-along, sumOf, sum-append}
 use Rattle.laid.specs.Listed.{and-both}
+use Rattle.laid.specs.Those.{rows-counted}
 use Rattle.laid.specs.Uses.{result-use-is-listed}
 use Rattle.laid.specs.Made.{result-feed, result-source}
 use Rattle.laid.specs.Taken.{stands-below, read-once, out-row}
@@ -121,20 +124,31 @@ module _ (t : List ℕ) where
   unfolding startTotal
   start-row k l = has-elem (startRows t) k l
 
+  -- start k is an input exactly if its row is
+  kind-of-start : (j : ℕ) → j < length (those (isStart t) (size t))
+      → flag (eqb (startKindAt (loweredWords t) j) 0) ≡ hit (isStart t) isInput input-is-start (getElem? (those (isStart t) (size t)) j)
+  unfolding startRows startTotal
+  kind-of-start j l =
+      let e = has-elem (those (isStart t) (size t)) j l in
+      ap (λ (x : ℕ). flag (eqb x 0)) (start-kind-at t j (e .0) (e .1) ∙ start-words-kind (e .0) (isInput (e .0)) refl)
+      ∙ kind-is-zero (e .0) (isInput (e .0)) refl
+      ∙ ap (hit (isStart t) isInput input-is-start) (sym (e .1))
+
   pub inputs-are-numbered : (k r : ℕ) → getElem? (startRows t) k ≡ some r → inputsBefore (loweredWords t) k ≡ length (those isInput r)
   unfolding startRows startTotal
   inputs-are-numbered k r h =
       let low = in-range (those (isStart t) (size t)) k r h in
-      total-same (λ j. flag (eqb (startKindAt (loweredWords t) j) 0)) (λ j. hit (isStart t) isInput input-is-start (getElem? (those (isStart t) (size t)) j)) k at
+      total-same (λ j. flag (eqb (startKindAt (loweredWords t) j) 0)) (λ j. hit (isStart t) isInput input-is-start (getElem? (those (isStart t) (size t)) j)) k (λ j l. kind-of-start j (omega arith))
       ∙ counted-before (isStart t) isInput input-is-start (size t) k r h
-    where
-      at : (j : ℕ) → j < k → flag (eqb (startKindAt (loweredWords t) j) 0) ≡ hit (isStart t) isInput input-is-start (getElem? (those (isStart t) (size t)) j)
-      at j l =
-          let low = in-range (those (isStart t) (size t)) k r h in
-          let e = has-elem (those (isStart t) (size t)) j (omega arith) in
-          ap (λ (x : ℕ). flag (eqb x 0)) (start-kind-at t j (e .0) (e .1) ∙ start-words-kind (e .0) (isInput (e .0)) refl)
-          ∙ kind-is-zero (e .0) (isInput (e .0)) refl
-          ∙ ap (hit (isStart t) isInput input-is-start) (sym (e .1))
+
+  pub inputs-are-the-rows : inputsBefore (loweredWords t) (startCount (loweredWords t)) ≡ rowsOf INPUT t (size t)
+  unfolding startRows startTotal
+  inputs-are-the-rows =
+      ap (inputsBefore (loweredWords t)) (start-count t)
+      ∙ total-same (λ j. flag (eqb (startKindAt (loweredWords t) j) 0)) (λ j. hit (isStart t) isInput input-is-start (getElem? (those (isStart t) (size t)) j)) (length (those (isStart t) (size t))) kind-of-start
+      ∙ total-along (hit (isStart t) isInput input-is-start) (those (isStart t) (size t))
+      ∙ counted-all (isStart t) isInput input-is-start (size t)
+      ∙ rows-counted INPUT t (size t)
 
   start-is-right : (k : ℕ) → k < startTotal t
       → ((startKindAt (loweredWords t) k ≡ 0) × (startWordAt (loweredWords t) k ≡ inputsBefore (loweredWords t) k)) ⊎ (startKindAt (loweredWords t) k ≡ 1)

@@ -4,4 +4,5 @@ pub mod Results
 pub mod Outcome
 pub mod Steps
 pub mod Within
+pub mod Standing
 pub mod Cases

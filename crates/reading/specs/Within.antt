@@ -75,7 +75,7 @@ unfolding turnsMade
 append-made [] ps = omega arith
 append-made (o ∷ os) ps = let e = append-made os ps in omega arith
 
-reverse-made : (os : List Opening) → turnsMade (reverse os) ≡ turnsMade os
+pub reverse-made : (os : List Opening) → turnsMade (reverse os) ≡ turnsMade os
 unfolding turnsMade
 reverse-made [] = refl
 reverse-made (o ∷ os) =
@@ -151,17 +151,17 @@ module _ (t : List ℕ) where
 
 module _ (t : List ℕ) (A : ℕ) where
   -- ---- one step of it
-  pub goes-on : (k : ℕ) (s s₁ : State) → step t s ≡ on s₁ → turnsMade (s₁ .openings) ≤ A → readWithin (suc k) A t s ≡ readWithin k A t s₁
+  pub step-goes-on : (k : ℕ) (s s₁ : State) → step t s ≡ on s₁ → turnsMade (s₁ .openings) ≤ A → readWithin (suc k) A t s ≡ readWithin k A t s₁
   unfolding readWithin
-  goes-on k s s₁ e l = rw (e, le-leb (turnsMade (s₁ .openings)) A l)
+  step-goes-on k s s₁ e l = rw (e, le-leb (turnsMade (s₁ .openings)) A l)
 
-  pub goes-no-further : (k : ℕ) (s s₁ : State) → step t s ≡ on s₁ → A < turnsMade (s₁ .openings) → readWithin (suc k) A t s ≡ some spent
+  pub step-goes-no-further : (k : ℕ) (s s₁ : State) → step t s ≡ on s₁ → A < turnsMade (s₁ .openings) → readWithin (suc k) A t s ≡ some spent
   unfolding readWithin
-  goes-no-further k s s₁ e l = rw (e, lt-leb (turnsMade (s₁ .openings)) A l)
+  step-goes-no-further k s s₁ e l = rw (e, lt-leb (turnsMade (s₁ .openings)) A l)
 
-  pub stops-there : (k : ℕ) (s : State) (o : Outcome) → step t s ≡ stop o → readWithin (suc k) A t s ≡ some (comes o)
+  pub step-stops-there : (k : ℕ) (s : State) (o : Outcome) → step t s ≡ stop o → readWithin (suc k) A t s ≡ some (comes o)
   unfolding readWithin
-  stops-there k s o e = rw e
+  step-stops-there k s o e = rw e
 
   -- what a step of it is
   data Goes (k : ℕ) (s : State) : Type 0 where
@@ -175,10 +175,10 @@ module _ (t : List ℕ) (A : ℕ) where
       go : (x : Step) → step t s ≡ x → Goes k s
       go (on s₁) e =
           elim (decLe (turnsMade (s₁ .openings)) A) [
-            | yes l ↦ further s₁ e l (goes-on k s s₁ e l)
-            | no n ↦ (let l : A < turnsMade (s₁ .openings) = omega arith in too-far s₁ e l (goes-no-further k s s₁ e l))
+            | yes l ↦ further s₁ e l (step-goes-on k s s₁ e l)
+            | no n ↦ (let l : A < turnsMade (s₁ .openings) = omega arith in too-far s₁ e l (step-goes-no-further k s s₁ e l))
           ]
-      go (stop o) e = there o e (stops-there k s o e)
+      go (stop o) e = there o e (step-stops-there k s o e)
 
   none-at-zero : (s : State) (w : Within) → readWithin 0 A t s ≡ some w → ⊥
   unfolding readWithin
@@ -190,9 +190,9 @@ module _ (t : List ℕ) (A : ℕ) where
   more-within (suc k) m s w h = let e : suc k + m ≡ suc (k + m) = omega arith in rw e (go (goes k s) (λ s₁. more-within k m s₁ w))
     where
       go : Goes k s → ((s₁ : State) → readWithin k A t s₁ ≡ some w → readWithin (k + m) A t s₁ ≡ some w) → readWithin (suc (k + m)) A t s ≡ some w
-      go (further s₁ e l q) ih = goes-on (k + m) s s₁ e l ∙ ih s₁ (sym q ∙ h)
-      go (too-far s₁ e l q) ih = goes-no-further (k + m) s s₁ e l ∙ sym q ∙ h
-      go (there o e q) ih = stops-there (k + m) s o e ∙ sym q ∙ h
+      go (further s₁ e l q) ih = step-goes-on (k + m) s s₁ e l ∙ ih s₁ (sym q ∙ h)
+      go (too-far s₁ e l q) ih = step-goes-no-further (k + m) s s₁ e l ∙ sym q ∙ h
+      go (there o e q) ih = step-stops-there (k + m) s o e ∙ sym q ∙ h
 
   -- THERE IS AT MOST ONE ANSWER
   pub one-within : (k m : ℕ) (s : State) (v w : Within) → readWithin k A t s ≡ some v → readWithin m A t s ≡ some w → v ≡ w
@@ -226,8 +226,8 @@ module _ (t : List ℕ) (A : ℕ) where
     where
       go : (x : Step) → step t s ≡ x → andThen x (λ s₁. readFrom k t s₁) ≡ some o → ((s₁ : State) → readFrom k t s₁ ≡ some o → readWithin k A t s₁ ≡ some (comes o))
           → readWithin (suc k) A t s ≡ some (comes o)
-      go (on s₁) e d ih = goes-on k s s₁ e (let m = outcome-made t k s₁ o d in omega arith) ∙ ih s₁ d
-      go (stop p) e d ih = let f : p ≡ o = cc in stops-there k s p e ∙ ap (λ (x : Outcome). some (comes x)) f
+      go (on s₁) e d ih = step-goes-on k s s₁ e (let m = outcome-made t k s₁ o d in omega arith) ∙ ih s₁ d
+      go (stop p) e d ih = let f : p ≡ o = cc in step-stops-there k s p e ∙ ap (λ (x : Outcome). some (comes x)) f
 
   pub spent-needs-more : (k m : ℕ) (s : State) (o : Outcome) → readWithin k A t s ≡ some spent → readFrom m t s ≡ some o → A < turnsMade (openingsOf o)
   spent-needs-more k m s o h r =
@@ -256,7 +256,7 @@ reach-within A here l m w h = (m, h)
 reach-within {t} A {a} {b} (then {s₁ = s₁} e p) l m w h =
     let r = reach-within A p l m w h in
     let g = reach-grows p in
-    (suc (r .0), goes-on t A (r .0) a s₁ e (omega arith) ∙ r .1)
+    (suc (r .0), step-goes-on t A (r .0) a s₁ e (omega arith) ∙ r .1)
 
 -- THE TURNS OF A SPENT READING ARE THE ALLOWANCE: it stands where so many are made and one more is due
 pub record Due (t : List ℕ) (A : ℕ) (s : State) : Type 0 where
@@ -286,4 +286,4 @@ pub due-is-spent : (t : List ℕ) (A : ℕ) (s : State) → Due t A s → (k : �
 due-is-spent t A s d =
     let m = d .made in
     let o = d .one-more in
-    reach-within A (d .reach) (omega arith) 1 spent (goes-no-further t A 0 (d .last) (d .over) (d .next) (omega arith))
+    reach-within A (d .reach) (omega arith) 1 spent (step-goes-no-further t A 0 (d .last) (d .over) (d .next) (omega arith))

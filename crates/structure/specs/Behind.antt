@@ -1,5 +1,5 @@
 -- The loops that are open before each row from the row before it, and so the body: what a program keeps going down the rows, with no stack.
--- Main names: `loopsAt`; `loops-first`, `loops-last`, `loops-after-for`, `loops-after-end`, `loops-after-other`, `loops-in-body`, `loops-few`; and of the
+-- Main names: `loopsAt`; `loops-first`, `loops-last`, `loops-around`, `loops-after-for`, `loops-after-end`, `loops-after-other`, `loops-in-body`, `loops-few`; and of the
 -- body: `body-first`, `body-last`, `body-after-for`, `body-after-end`, `body-after-other`, `same-loops`.
 -- Assumes nothing.
 use Prim.Native.Nat.{ℕ, zero, suc, _+_, _<_, _≤_}
@@ -56,6 +56,15 @@ loops-last t ok = rw (nothing-left-open t ok)
 pub loops-after-for : (t : List ℕ) (r : ℕ) → kindAt t r ≡ 4 → loopsAt t (suc r) ≡ r ∷ loopsAt t r
 unfolding loopsAt stackAt after
 loops-after-for t r k = rw k
+
+-- in a loop's body: the loop, and those around it
+pub loops-around : (t : List ℕ) → TableRight t → (r : ℕ) → r ≤ size t → bodyOf t r ≢ size t → loopsAt t r ≡ bodyOf t r ∷ loopsAt t (bodyOf t r)
+unfolding loopsAt bodyOf
+loops-around t ok r l n = go (stackAt t r) refl n
+  where
+    go : (s : List Loop) → stackAt t r ≡ s → inner (size t) s ≢ size t → rowsOf s ≡ inner (size t) s ∷ rowsOf (stackAt t (inner (size t) s))
+    go [] e n = absurd (n refl)
+    go (x ∷ s) e n = ap (λ (z : List Loop). x .row ∷ rowsOf z) (sym (innermost t ok r l x s e .around))
 
 pub loops-after-end : (t : List ℕ) → TableRight t → (r : ℕ) → r < size t → kindAt t r ≡ 7 → loopsAt t (suc r) ≡ loopsAt t (bodyOf t r)
 unfolding loopsAt bodyOf stackAt after

@@ -1,0 +1,2 @@
+-- Why the walkers follow the reading.
+pub mod Walking
