@@ -32,11 +32,12 @@ use Rattle.table.specs.Rows.{size, INPUT, OUT}
 use Rattle.table.specs.Counted.{rowsOf}
 use Rattle.table.specs.Check.{Refusal, answer, tableRefusal}
 use Rattle.table.specs.Right.{number-0-is-right}
+use Rattle.structure.specs.Structure.{right-table-has-structure}
 use Rattle.reading.specs.Reading.{Opening, Outcome, ended, zeroStep, begin, read}
 use Rattle.reading.specs.Outcome.{Reads, one-outcome}
+use Rattle.reading.specs.Results.{ended-has-a-word-each}
 use Rattle.reading.specs.Within.{turnsMade, Within, comes, spent, openingsOf, one-within, within-is-read, read-is-within, spent-needs-more, Due, spent-is-all, due-is-spent}
 use Rattle.reading.specs.Standing.{walk-is-bounded}
-use Rattle.engine.specs.Results.{ended-has-a-word-each}
 use Rattle.engine.specs.Answers.{ROOM, INPUTS, plainRefusal, plainWithin, toldBy, lentBy, plainAnswer, plainLent, PlainAnswer, plainNumber, plainRow, plainOutcome, plainTurns}
 use Rattle.engine.specs.declared.Plain.{Plain}
 use Rattle.engine.specs.declared.Plain.the-variants.{Refused, Ended, ZeroStep, Spent}
@@ -128,12 +129,16 @@ pub record SpentSo (t inputs lent : List ℕ) (A T : ℕ) (after : List ℕ) : T
   pub needs-more : (o : Outcome) → Reads t inputs o → A < turnsMade (openingsOf o)
   pub stays : after ≡ lent
 
-pub results-first : (t inputs lent results : List ℕ) (openings : List Opening) → Reads t inputs (ended results openings) → rowsOf OUT t (size t) ≤ length lent
-    → sets lent 0 results ≡ results ++ drop (length results) lent
-results-first t inputs lent results openings r l =
-    let n = ended-has-a-word-each t inputs results openings r in
-    let e : 0 + length results ≡ length results = omega arith in
-    sets-eq results lent 0 (omega arith) ∙ ap (λ (k : ℕ). results ++ drop k lent) e
+module _ (t inputs lent : List ℕ) (f : Fit t inputs (length lent)) (results : List ℕ) (openings : List Opening) (r : Reads t inputs (ended results openings)) where
+  one-word-each : length results ≡ rowsOf OUT t (size t)
+  one-word-each = ended-has-a-word-each t (right-table-has-structure t (number-0-is-right t (f .rows))) results openings inputs r
+
+  pub results-first : sets lent 0 results ≡ results ++ drop (length results) lent
+  results-first =
+      let n = one-word-each in
+      let l = f .room in
+      let e : 0 + length results ≡ length results = omega arith in
+      sets-eq results lent 0 (omega arith) ∙ ap (λ (k : ℕ). results ++ drop k lent) e
 
 module _ (t inputs lent : List ℕ) (A : ℕ) where
   abbrev refusal : Refusal
@@ -216,10 +221,10 @@ module _ (t inputs lent : List ℕ) (A : ℕ) where
             reads = x .0;
             turns = m;
             allowed = omega arith;
-            one-each = ended-has-a-word-each t inputs rs os (x .0);
+            one-each = one-word-each t inputs lent f rs os (x .0);
             stored = l;
-            first = l ∙ results-first t inputs lent rs os (x .0) (f .room);
-            written = ap (resultsIn t) (l ∙ results-first t inputs lent rs os (x .0) (f .room)) ∙ take-at rs (drop (length rs) lent) (rowsOf OUT t (size t)) (ended-has-a-word-each t inputs rs os (x .0));
+            first = l ∙ results-first t inputs lent f rs os (x .0);
+            written = ap (resultsIn t) (l ∙ results-first t inputs lent f rs os (x .0)) ∙ take-at rs (drop (length rs) lent) (rowsOf OUT t (size t)) (one-word-each t inputs lent f rs os (x .0));
           }
 
   pub the-reading-is-ended : Fit t inputs (length lent) → (results : List ℕ) (openings : List Opening) → Reads t inputs (ended results openings) → turnsMade openings ≤ A
@@ -239,7 +244,7 @@ module _ (t inputs lent : List ℕ) (A : ℕ) where
           let g : rs₁ ≡ rs = cc in
           let h : os₁ ≡ os = cc in
           let s = k ∙ ap (sets lent 0) g in
-          (e ∙ ap (λ (z : List Opening). Ended (turnsMade z)) h, s, s ∙ results-first t inputs lent rs os x (f .room))
+          (e ∙ ap (λ (z : List Opening). Ended (turnsMade z)) h, s, s ∙ results-first t inputs lent f rs os x)
 
   -- A ZERO STEP
   pub zero-step-is-the-reading : (L T : ℕ) (after : List ℕ) → PlainAnswer t inputs lent A (ZeroStep L T) after → FaultsSo t inputs lent A L T after

@@ -1,5 +1,4 @@
 -- The entry read_plain: what it answers, and what that has to do with the plain reading.
 pub mod Answers
-pub mod Results
 pub mod Against
 pub mod Cases
