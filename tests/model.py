@@ -5,7 +5,8 @@
   tests/model.py cases              prints the calls of crates/graph_cases/stdin
   tests/model.py lowering-cases     prints the calls of crates/lowering_cases/stdin
   tests/model.py sheet-cases        prints the calls of crates/sheet_cases/stdin
-  tests/model.py told               says of each call of the three what it shows, with the start of the answer
+  tests/model.py plain-cases        prints the calls of crates/plain_cases/stdin
+  tests/model.py told               says of each call of the four what it shows, with the start of the answer
   tests/model.py draw < words       lists and draws a graph, its tokens and names, as crates/graph_drawn does
   tests/model.py trace < words      runs a graph and tells each firing, as crates/graph_rehearsed does
   tests/model.py lower < table      the words of a table's graph, a line a row, as `rehearse lower` prints them
@@ -506,47 +507,73 @@ def named(words):
     return nodes, wires + [wires[copied[k]] for k in range(len(wires), graph.wires)]
 
 
-class Fault(Exception): pass
+class Stop(Exception): pass
 
 
-def reading(words, inputs, turns=1000):
-    """Plain reading: the results; a Fault at a zero step, or where the turns run out."""
-    table = read_table(words)[0]
-    rows, value, given, out = table.rows, {}, iter(inputs), []
-    ends = {}
-    stack = []
-    for i, r in enumerate(rows):
-        if r[0] == FOR: stack.append(i)
-        if r[0] == END: ends[stack.pop()] = i
+ENDED, ZERO_STEP, SPENT = 0, 1, 3
 
-    def body(i, end):
-        nonlocal turns
+
+class Plain:
+    """Plain reading, with an allowance of turns: `answer`, the row of a zero step, the turns made, and the results of a reading that ended."""
+
+    def __init__(self, table, inputs, allowance):
+        self.table, self.allowance, self.given = table, allowance, iter(inputs)
+        self.value, self.out, self.turns, self.answer, self.row = {}, [], 0, ENDED, 0
+        self.ends, opened = {}, []
+        for i, r in enumerate(table.rows):
+            if r[0] == FOR: opened.append(i)
+            if r[0] == END: self.ends[opened.pop()] = i
+        try: self.body(0, len(table.rows))
+        except Stop: self.out = None
+
+    def stop(self, answer, row=0):
+        self.answer, self.row = answer, row
+        raise Stop
+
+    def body(self, i, end):
+        value = self.value
         while i < end:
-            kind, a, b, c, d, e = rows[i]
-            if kind == INPUT: value[i] = next(given)
+            kind, a, b, c, _, _ = self.table.rows[i]
+            if kind == INPUT: value[i] = next(self.given)
             if kind == CONST: value[i] = a
             if kind == ROW_OP: value[i] = operator(a, value[b], value[c])
             if kind == ROW_PICK: value[i] = value[b] if value[a] else value[c]
-            if kind == OUT: out.append(value[a])
+            if kind == OUT: self.out.append(value[a])
             if kind == FOR:
-                index, step, bound = value[a], value[b], value[c]
-                if step == 0: raise Fault
-                args, nexts = table.args[i], table.nexts[i]
-                carried = [value[rows[x][1]] for x in args]
-                while condition(e, index, bound):
-                    turns -= 1
-                    if turns < 0: raise Fault
-                    value[i] = index
-                    for x, w in zip(args, carried): value[x] = w
-                    body(i + 1 + len(args), ends[i])
-                    carried = [value[rows[x][1]] for x in nexts]
-                    index = update(d, index, step)
-                for x, w in zip(nexts, carried): value[x] = w
-                i = ends[i]
+                self.loop(i)
+                i = self.ends[i]
             i += 1
 
-    body(0, len(rows))
-    return out
+    def loop(self, i):
+        """A zero step is met where the loop opens; a turn counts when it starts."""
+        value, rows = self.value, self.table.rows
+        _, a, b, c, d, e = rows[i]
+        index, step, bound = value[a], value[b], value[c]
+        if step == 0: self.stop(ZERO_STEP, i)
+        args, nexts = self.table.args[i], self.table.nexts[i]
+        carried = [value[rows[x][1]] for x in args]
+        while condition(e, index, bound):
+            if self.turns == self.allowance: self.stop(SPENT)
+            self.turns += 1
+            value[i] = index
+            for x, w in zip(args, carried): value[x] = w
+            self.body(i + 1 + len(args), self.ends[i])
+            carried = [value[rows[x][1]] for x in nexts]
+            index = update(d, index, step)
+        for x, w in zip(nexts, carried): value[x] = w
+
+
+def read_plain(allowance, lent, words, inputs):
+    """A refusal's number and row, which answer it is, the turns made, and the lent words."""
+    before = [7] * lent
+    table, no, row = read_table(words)
+    if no: return no, row, 0, 0, before
+    kinds = [r[0] for r in table.rows]
+    if len(inputs) != kinds.count(INPUT): return 16, 0, 0, 0, before
+    if lent < kinds.count(OUT): return 10, len(kinds), 0, 0, before
+    read = Plain(table, inputs, allowance)
+    out = read.out or []
+    return 0, read.row, read.answer, read.turns, out + before[len(out):]
 
 
 # Sheets. Whether a text can go on is asked of the text as a whole, line by line, and not of a reader that goes through it: the offset of a refusal is
@@ -658,6 +685,9 @@ def answer(line):
     if name == 'check_graph': return str(check_graph(parts[0]))
     if name == 'check_table': return ' '.join(map(str, check_table(parts[0])))
     head = parts[0][0]
+    if name == 'read_plain':
+        *four, lent = read_plain(*parts[0], parts[1], parts[2])
+        return listed(four, lent)
     if name in ('lower', 'read_sheet', 'write_sheet'):
         *three, lent = {'lower': lower, 'read_sheet': read_sheet, 'write_sheet': write_sheet}[name](head, parts[1])
         return listed(three, lent)
@@ -899,6 +929,79 @@ def sheet_cases():
     yield read('a carriage return behind the sheet', sheet(one) + b'\r')
 
 
+def plain_cases():
+    """(what it shows, the call), in order."""
+    read = lambda what, words, inputs=(), allowance=1000, lent=3: (what, call('read_plain', f'{allowance} {lent}', words, inputs))
+    row = lambda words, i, *new: words[:6 * i] + list(new) + words[6 * i + len(new):]
+    passed = table([INPUT], [OUT, 0])
+    still = row(SUM_TABLE, 2, CONST, 0)
+    yield read('P10: the sum table, input 5: 10 after 5 turns', SUM_TABLE, [5])
+    yield read('P11: the sum table, input 0: 0 after no turn', SUM_TABLE, [0])
+    yield read('one word is lent exactly', SUM_TABLE, [5], lent=1)
+    yield read('the sum of a thousand turns', SUM_TABLE, [1000])
+    yield read('an allowance exactly used up by a reading that ends', SUM_TABLE, [5], 5)
+    yield read('one turn less: spent, lent words as they were', SUM_TABLE, [5], 4)
+    yield read('no turn is allowed: spent', SUM_TABLE, [5], 0)
+    yield read('no turn is allowed and none is due: ended', SUM_TABLE, [0], 0)
+    yield read('the largest allowance', SUM_TABLE, [5], 2 ** 64 - 1)
+    yield read('row 2 changed to CONST 0: zero step at row 3, no turn', still, [5])
+    yield read('a zero step of a loop that would make no turn', still, [0])
+    yield read('a zero step, and no turn is allowed: none is due', still, [5], 0)
+    yield read('P12: 5 after 6 turns', P12)
+    yield read('P12 with an allowance of exactly 6', P12, allowance=6)
+    yield read('P12 with one turn less: spent in the inner loop', P12, allowance=5)
+    yield read('P12 with an allowance of 3: spent where the outer loop turns', P12, allowance=3)
+    yield read('P12 with an allowance of 0', P12, allowance=0)
+    yield read('INPUT; OUT 0: the word itself', passed, [X])
+    yield read('one word is given as three results, and a word is to spare', table([INPUT], *[[OUT, 0]] * 3), [9], lent=4)
+    many = table([INPUT], [CONST, 3], [ROW_OP, 0, 0, 1], [ROW_OP, 2, 0, 1], *[[OUT, k] for k in (3, 0, 2, 1)])
+    yield read('four results in the order of their rows', many, [X], lent=4)
+    yield read('511 results', table([INPUT], *[[OUT, 0]] * 511), [8], lent=511)
+    for code in range(8):
+        for x, y in ((3, 5), (5, 3), (X, X), (0, X)):
+            words = table([INPUT], [INPUT], [ROW_OP, code, 0, 1], [OUT, 2]) if code < 3 else table([INPUT], [INPUT], [ROW_OP, code, 0, 1], [ROW_PICK, 2, 0, 1], [OUT, 3])
+            yield read(f'operator {code} on {x} and {y}', words, [x, y])
+    for code, start, step, bound, going in ((0, 0, 3, 10, 0), (1, 9, 4, 1, 2), (2, 1, 3, 1000, 1), (3, 1000, 3, 0, 4), (4, 1, 4, 0, 4), (5, 4096, 5, 0, 2), (0, X - 3, 2, 0, 4), (3, 7, 2, 7, 3)):
+        words = table([INPUT], [INPUT], [INPUT], [CONST, 0], [FOR, 0, 1, 2, code, going], [ARG, 3], [ROW_OP, 0, 5, 4], [NEXT, 6], [END], [OUT, 7])
+        yield read(f'update {code} under condition {going}', words, [start, step, bound], 40)
+    swap = table([INPUT], [INPUT], [INPUT], [CONST, 0], [CONST, 1], [FOR, 3, 4, 2, 0, 0], [ARG, 0], [ARG, 1], [NEXT, 7], [NEXT, 6], [END], [OUT, 8], [OUT, 9])
+    for n in (0, 1, 2, 3): yield read(f'two ARGs that swap, {n} turns', swap, [11, 22, n])
+    yield read('a NEXT of the other ARG, beside one of the index', row(swap, 9, NEXT, 5), [11, 22, 3])
+    inner = table([INPUT], [CONST, 0], [CONST, 1], [FOR, 1, 2, 0, 0, 0], [ARG, 1], [FOR, 3, 2, 0, 0, 0], [ARG, 4], [ARG, 3], [ROW_OP, 0, 6, 5], [NEXT, 8], [NEXT, 6], [END],
+                  [ROW_OP, 0, 9, 10], [NEXT, 12], [END], [OUT, 13])
+    yield read('an inner loop from the outer index, opened with other words each time', inner, [4])
+    behind = table([INPUT], [CONST, 2], [CONST, 1], [CONST, 0], [FOR, 1, 2, 3, 1, 2], [FOR, 3, 4, 0, 0, 0], [END], [FOR, 3, 3, 0, 0, 0], [END], [END], [OUT, 0])
+    yield read('a zero step in a loop, behind another: 4 turns', behind, [6])
+    yield read('the same with the allowance used up there: zero step', behind, [6], 4)
+    yield read('the same with one turn less: spent', behind, [6], 3)
+    later = table([INPUT], [CONST, 2], [CONST, 1], [CONST, 0], [FOR, 1, 2, 3, 1, 2], [ROW_OP, 1, 4, 2], [FOR, 3, 5, 0, 0, 0], [END], [END], [OUT, 0])
+    yield read('a zero step in the second turn of the outer loop', later, [3])
+    yield read('the same with the allowance used up there', later, [3], 5)
+    endless = table([CONST, 0], [CONST, 1], [FOR, 0, 1, 1, 2, 0], [END], [OUT, 0])
+    yield read('a loop whose index stays 0: spent', endless, allowance=1000)
+    yield read('a zero step above a loop that never ends', table([CONST, 0], [CONST, 1], [FOR, 0, 0, 1, 0, 0], [END], [FOR, 0, 1, 1, 2, 0], [END], [OUT, 0]))
+    yield read('eight nested loops, two turns each: 510', nested(8))
+    yield read('eight nested loops, one turn less', nested(8), allowance=509)
+    yield read('6: a ninth', nested(9))
+    yield read('a table of 4,097 nodes, which lower refuses for ROOM', wide(98, 22), [0] * 22, lent=1)
+    yield read('496 rows, 9,897 nodes', wide(240), lent=1)
+    yield read('512 rows', table([INPUT], *[[ROW_OP, 0, k, 0] for k in range(510)], [OUT, 510]), [3])
+    for what, words in (('1: no rows', []), ('1: a word short', SUM_TABLE[:-1]), ('1: 513 rows', table([INPUT], *[[OUT, 0]] * 512)), ('2: a kind of 9', row(SUM_TABLE, 5, 9)),
+                        ('3: END with a word', row(SUM_TABLE, 7, END, 1)), ('4: an operator of 8', row(SUM_TABLE, 5, ROW_OP, 8)), ('4: an update of 6', row(SUM_TABLE, 3, FOR, 1, 2, 0, 6)),
+                        ('4: a condition of 5', row(SUM_TABLE, 3, FOR, 1, 2, 0, 0, 5)), ('5: NEXT behind FOR', row(SUM_TABLE, 4, NEXT, 1)),
+                        ('5: END before all NEXTs', row(SUM_TABLE, 6, END, 0)), ('7: a row further down', row(SUM_TABLE, 5, ROW_OP, 0, 6)), ('7: an ARG of its own index', row(SUM_TABLE, 4, ARG, 3)),
+                        ('8: a flag as an OUT', table([INPUT], [ROW_OP, 3, 0, 0], [OUT, 1])), ('9: a table without its OUT', SUM_TABLE[:-6])):
+        yield read(f'{what}, lent words as they were', words, [5])
+    yield read('16: no input word', SUM_TABLE)
+    yield read('16: two input words', SUM_TABLE, [5, 6])
+    yield read('16: a word for a table of constants', P12, [1])
+    yield read('16 before 10: no input word, no word lent', SUM_TABLE, lent=0)
+    yield read('9 before 16', SUM_TABLE[:-6], [5, 6])
+    yield read('10: no word is lent', SUM_TABLE, [5], lent=0)
+    yield read('10: one word too few is lent, and all stay', many, [5], lent=3)
+    yield read('10 before any turn: a loop that never ends', endless, lent=0)
+
+
 def name_of(node):
     """A node's kind, with what its code says."""
     name = 'STREAM GATE CARRY INVARIANT SPLIT FORK DRAIN OP PICK'.split()[node.kind]
@@ -1024,8 +1127,10 @@ if __name__ == '__main__':
         for _, line in lowering_cases(): print(line)
     elif what == ['sheet-cases']:
         for _, line in sheet_cases(): print(line)
+    elif what == ['plain-cases']:
+        for _, line in plain_cases(): print(line)
     elif what == ['told']:
-        for part in (cases(), lowering_cases(), sheet_cases()):
+        for part in (cases(), lowering_cases(), sheet_cases(), plain_cases()):
             for k, (shows, line) in enumerate(part): print(f'{k + 1}. {shows}: `{answer(line).partition(" ;")[0]}`')
             print()
     elif what == ['draw']:

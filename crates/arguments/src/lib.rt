@@ -28,6 +28,8 @@ const A_FILE: u32 = 1;
 
 const A_NUMBER: u32 = 2;
 
+const SOME_TURNS: u32 = 3;
+
 // What can be wrong with an argument.
 
 pub const TABLE: u32 = 1;
@@ -48,19 +50,30 @@ pub const ALONE: u32 = 8;
 
 pub const TRACE: u32 = 9;
 
-// The allowance where none is asked: more than any rehearsal of a station takes, and over in minutes.
+pub const UNREAD: u32 = 10;
+
+pub const UNTURNED: u32 = 11;
+
+pub const UNRUN: u32 = 12;
+
+// The allowance of firings and that of turns where none is asked: more than any rehearsal of a station takes, and over in minutes.
 pub const USUAL: u64 = 1000000000;
 
-// `table` and `order` are numbers of arguments, 0 where none names the file; `run` says that a run was asked for by an input or an option.
+// `table` and `order` are numbers of arguments, 0 where none names the file; `run` says that a run was asked for by an input or an option,
+// `steered` that an option was given which a run alone takes, and `turned` that --turns was.
 // `problem` is the first that is wrong, and `at` its argument.
 pub struct Asked {
     pub table: usize,
     pub order: usize,
     pub inputs: usize,
     pub allowance: u64,
+    pub turns: u64,
     pub reverse: bool,
     pub trace: bool,
+    pub both: bool,
     pub run: bool,
+    pub steered: bool,
+    pub turned: bool,
     pub waits: u32,
     pub problem: u32,
     pub at: usize,
@@ -74,9 +87,13 @@ fn nothing() -> Asked
         order: 0,
         inputs: 0,
         allowance: USUAL,
+        turns: USUAL,
         reverse: false,
         trace: false,
+        both: false,
         run: false,
+        steered: false,
+        turned: false,
         waits: NO_MORE,
         problem: 0,
         at: 0,
@@ -108,6 +125,20 @@ fn with_allowance(given: Asked, k: usize, arg: &[u8]) -> Asked
     asked
 }
 
+fn with_turns(given: Asked, k: usize, arg: &[u8]) -> Asked
+    ensures { λ r. ⌜ r .inputs ≤ given .inputs ⌝ }
+{
+    let n = text::number(arg);
+    if n.problem != 0 {
+        return wrong(given, ALLOWANCE, k);
+    }
+    let mut asked = given;
+    asked.turns = n.value;
+    asked.turned = true;
+    asked.waits = NO_MORE;
+    asked
+}
+
 fn with_order(given: Asked, k: usize) -> Asked
     ensures { λ r. ⌜ r .inputs ≤ given .inputs ⌝ }
 {
@@ -127,11 +158,20 @@ fn waiting(given: Asked, k: usize, what: u32) -> Asked
     asked
 }
 
-fn reversed(given: Asked) -> Asked
+// An option that a run alone takes.
+fn steering(given: Asked) -> Asked
     ensures { λ r. ⌜ r .inputs ≤ given .inputs ⌝ }
 {
     let mut asked = given;
     asked.run = true;
+    asked.steered = true;
+    asked
+}
+
+fn reversed(given: Asked) -> Asked
+    ensures { λ r. ⌜ r .inputs ≤ given .inputs ⌝ }
+{
+    let mut asked = steering(given);
     asked.reverse = true;
     asked
 }
@@ -139,9 +179,16 @@ fn reversed(given: Asked) -> Asked
 fn traced(given: Asked) -> Asked
     ensures { λ r. ⌜ r .inputs ≤ given .inputs ⌝ }
 {
-    let mut asked = given;
-    asked.run = true;
+    let mut asked = steering(given);
     asked.trace = true;
+    asked
+}
+
+fn doubled(given: Asked) -> Asked
+    ensures { λ r. ⌜ r .inputs ≤ given .inputs ⌝ }
+{
+    let mut asked = steering(given);
+    asked.both = true;
     asked
 }
 
@@ -154,11 +201,17 @@ fn option(given: Asked, k: usize, arg: &[u8]) -> Asked
     if text::same(arg, b"--trace") {
         return traced(given);
     }
+    if text::same(arg, b"--both") {
+        return doubled(given);
+    }
     if text::same(arg, b"--order") {
-        return waiting(given, k, A_FILE);
+        return waiting(steering(given), k, A_FILE);
     }
     if text::same(arg, b"--allowance") {
-        return waiting(given, k, A_NUMBER);
+        return waiting(steering(given), k, A_NUMBER);
+    }
+    if text::same(arg, b"--turns") {
+        return waiting(given, k, SOME_TURNS);
     }
     wrong(given, OPTION, k)
 }
@@ -236,6 +289,7 @@ fn take(given: Asked, k: usize, arg: &[u8], inputs: &mut [u32]) -> Asked
     match waits {
         A_FILE => with_order(given, k),
         A_NUMBER => with_allowance(given, k, arg),
+        SOME_TURNS => with_turns(given, k, arg),
         _ => plain(given, k, arg, inputs),
     }
 }
@@ -278,6 +332,6 @@ pub fn put_problem(out: &mut [u8], at: usize, problem: u32) -> usize
     ensures { λ r. ⌜ r ≤ length (now (out .entry)) ⌝ }
 {
     let problems =
-        b"nothing is wrong;no table is named;there is no such option;an input is a decimal word, 0 to 4,294,967,295;no table has so many inputs;something is to follow this option;an allowance is a number, 0 to 18,446,744,073,709,551,615;--order and --reverse do not go together;this command takes a table and nothing else;a drawing has no trace";
+        b"nothing is wrong;no table is named;there is no such option;an input is a decimal word, 0 to 4,294,967,295;no table has so many inputs;something is to follow this option;an allowance is a number, 0 to 18,446,744,073,709,551,615;--order and --reverse do not go together;this command takes a table and nothing else;a drawing has no trace;--turns and --both go with run and read, not with a drawing;--turns goes with read, and with run where --both is given;a reading has no firings: it takes input words and --turns";
     text::put(out, at, text::part(problems, problem as usize))
 }

@@ -2,6 +2,7 @@
 // `answer` works on lent memory alone; `serve` reads lines from a descriptor and writes their answers to another.
 ghost use Prim.Native.Nat.{_≤_, _<_};
 ghost use lib.ListN.{length};
+use engine::Plain;
 use machine::Fired;
 use run::Ran;
 
@@ -14,6 +15,8 @@ const LISTS: u32 = 6;
 const LENT: u32 = 7;
 
 const LONG: u32 = 8;
+
+const TWO: u32 = 9;
 
 // The calls, by number.
 
@@ -32,6 +35,8 @@ const RUN: u32 = 6;
 const READ_SHEET: u32 = 7;
 
 const WRITE_SHEET: u32 = 8;
+
+const READ_PLAIN: u32 = 9;
 
 // What lent words and bytes hold before a call.
 const BEFORE: u32 = 7;
@@ -76,6 +81,9 @@ fn call_of(name: &[u8]) -> u32 {
     if text::same(name, b"write_sheet") {
         return WRITE_SHEET;
     }
+    if text::same(name, b"read_plain") {
+        return READ_PLAIN;
+    }
     0
 }
 
@@ -87,6 +95,7 @@ fn lists_of(call: u32) -> usize {
         WRITE_SHEET => 1,
         LOAD => 2,
         FIRE => 2,
+        READ_PLAIN => 2,
         RUN => 3,
         _ => 0,
     }
@@ -97,7 +106,7 @@ fn reason(problem: u32, out: &mut [u8], at: usize) -> usize
     ensures { λ r. ⌜ r ≤ length (now (out .entry)) ⌝ }
 {
     let reasons =
-        b"none;a letter that is no digit, space or semicolon;a number that is too large;more words in a list than there is room for;one number belongs before the first semicolon;no call has this name;this call has another number of semicolons;more words or bytes are to be lent than there are;the line is too long";
+        b"none;a letter that is no digit, space or semicolon;a number that is too large;more words in a list than there is room for;one number belongs before the first semicolon;no call has this name;this call has another number of semicolons;more words or bytes are to be lent than there are;the line is too long;two numbers belong before the first semicolon";
     text::put(out, at, text::part(reasons, problem as usize))
 }
 
@@ -244,14 +253,14 @@ fn call_fire(node: u64, graph: &[u32], state: &mut [u32], out: &mut [u8]) -> usi
     say_words(out, n, state)
 }
 
-// The four numbers of a run's answer.
-fn say_four(number: u32, ended: u64, firings: u64, node: u32, out: &mut [u8]) -> usize
+// A refusal number and the three numbers behind it.
+fn say_four(number: u32, second: u64, third: u64, fourth: u64, out: &mut [u8]) -> usize
     ensures { λ r. ⌜ r ≤ length (now (out .entry)) ⌝ }
 {
     let a = say_number(number, out);
-    let b = text::put_next(out, a, ended);
-    let c = text::put_next(out, b, firings);
-    text::put_next(out, c, node as u64)
+    let b = text::put_next(out, a, second);
+    let c = text::put_next(out, b, third);
+    text::put_next(out, c, fourth)
 }
 
 fn say_ran(ran: Ran, out: &mut [u8]) -> usize
@@ -260,7 +269,7 @@ fn say_ran(ran: Ran, out: &mut [u8]) -> usize
     match ran {
         Ran::Refused(number) => say_four(number, 0, 0, 0, out),
         Ran::Complete(firings) => say_four(0, 0, firings, 0, out),
-        Ran::ZeroStep(firings, node) => say_four(0, 1, firings, node, out),
+        Ran::ZeroStep(firings, node) => say_four(0, 1, firings, node as u64, out),
         Ran::Stranded(firings) => say_four(0, 2, firings, 0, out),
         Ran::Spent(firings) => say_four(0, 3, firings, 0, out),
     }
@@ -278,6 +287,33 @@ fn call_run(
     let ran = run::run(graph, state, order, allowance);
     let n = say_ran(ran, out);
     say_words(out, n, state)
+}
+
+// A refusal's number and row, or the row of a zero step; which answer it is; the turns made.
+fn say_plain(plain: Plain, out: &mut [u8]) -> usize
+    ensures { λ r. ⌜ r ≤ length (now (out .entry)) ⌝ }
+{
+    match plain {
+        Plain::Refused(number, row) => say_four(number, row as u64, 0, 0, out),
+        Plain::Ended(turns) => say_four(0, 0, 0, turns, out),
+        Plain::ZeroStep(row, turns) => say_four(0, row as u64, 1, turns, out),
+        Plain::Spent(turns) => say_four(0, 0, 3, turns, out),
+    }
+}
+
+fn call_read_plain(
+    allowance: u64,
+    table: &[u32],
+    inputs: &[u32],
+    results: &mut [u32],
+    out: &mut [u8],
+) -> usize
+    ensures { λ r. ⌜ r ≤ length (now (out .entry)) ⌝ }
+{
+    fill(results);
+    let plain = engine::read_plain(table, inputs, results, allowance);
+    let n = say_plain(plain, out);
+    say_words(out, n, results)
 }
 
 // The first of two problems.
@@ -480,6 +516,87 @@ fn run_line(
     )
 }
 
+// Where the spaces that a text starts with end.
+fn spaces_end(text: &[u8]) -> usize
+    ensures { λ r. ⌜ r ≤ length (now (text .entry)) ⌝ }
+{
+    let mut i: usize = 0;
+    while i < text.len() {
+        if 32 < text[i] {
+            return i;
+        }
+        i += 1;
+    }
+    i
+}
+
+// An allowance and a number of words to be lent, at most so many, and what is wrong with them first.
+struct Allowed {
+    allowance: u64,
+    lent: usize,
+    problem: u32,
+}
+
+// No number, or three, where two are wanted.
+fn of_two(problem: u32) -> u32 {
+    if problem == text::SINGLE {
+        return TWO;
+    }
+    problem
+}
+
+fn allowance_and_lent(head: &[u8], most: usize) -> Allowed
+    ensures { λ r. ⌜ r .lent ≤ most ⌝ }
+{
+    let s = spaces_end(head);
+    let first = &head[s..];
+    let e = name_end(first);
+    let allowance = text::number(&first[..e]);
+    let lent = text::number(&first[e..]);
+    let problem = of_two(first_of(allowance.problem, lent.problem));
+    let k = lent.value as usize;
+    if most < k {
+        return Allowed {
+            allowance: 0,
+            lent: 0,
+            problem: first_of(problem, LENT),
+        };
+    }
+    Allowed {
+        allowance: allowance.value,
+        lent: k,
+        problem,
+    }
+}
+
+fn read_plain_line(
+    rest: &[u8],
+    table: &mut [u32],
+    inputs: &mut [u32],
+    results: &mut [u32],
+    out: &mut [u8],
+) -> usize
+    ensures { λ r. ⌜ r ≤ length (now (out .entry)) ⌝ }
+{
+    let asked = allowance_and_lent(text::part(rest, 0), results.len());
+    let t = text::words(text::part(rest, 1), table);
+    let i = text::words(text::part(rest, 2), inputs);
+    let problem = first_of(asked.problem, first_of(t.problem, i.problem));
+    if problem != 0 {
+        return error(problem, out);
+    }
+    let k = asked.lent;
+    let n = t.count;
+    let m = i.count;
+    call_read_plain(
+        asked.allowance,
+        &table[..n],
+        &inputs[..m],
+        &mut results[..k],
+        out,
+    )
+}
+
 fn line_of(
     call: u32,
     rest: &[u8],
@@ -498,6 +615,7 @@ fn line_of(
         FIRE => fire_line(rest, first, second, out),
         READ_SHEET => read_sheet_line(rest, first, second, out),
         WRITE_SHEET => write_sheet_line(rest, first, out),
+        READ_PLAIN => read_plain_line(rest, first, third, second, out),
         _ => run_line(rest, first, second, third, out),
     }
 }

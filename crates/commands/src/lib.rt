@@ -24,6 +24,8 @@ const RUN: u32 = 5;
 
 const DRAW: u32 = 6;
 
+const READ: u32 = 7;
+
 const LENGTH: u32 = 1;
 
 const SPARE: u32 = 3;
@@ -46,6 +48,7 @@ fn usage(to: i32) -> bool {
         to,
         b"rehearse check TABLE                      whether a loop table is right; if not, what to mend: the rule, the row, the clause
 rehearse run TABLE INPUT.. [OPTION..]     runs a table on its input words
+rehearse read TABLE INPUT.. [--turns N]   reads a table on its input words, row by row, without its graph
 rehearse lower TABLE                      the words of a table's graph, with what they say as comments
 rehearse draw TABLE [INPUT.. OPTION..]    a table's graph as Graphviz text; with inputs, the tokens after a run
 rehearse sheet TABLE                      a table as a sheet that people can read
@@ -53,7 +56,8 @@ rehearse table SHEET                      a sheet's words, with the kind of each
 rehearse calls                            answers calls, one a line, from standard input
 rehearse --help                           this
 Options of run, and of draw but for --trace: --order FILE, node numbers to go through once before the sweeps; --reverse, all nodes from the last to 0 so;
---allowance N, the most firings, 1,000,000,000 where it is not given; --trace, a line for each firing.
+--allowance N, the most firings, 1,000,000,000 where it is not given; --trace, a line for each firing. Of run alone: --both, the table is read too, and the two are compared.
+Of read, and of run with --both: --turns N, the most turns of loops, 1,000,000,000 where it is not given.
 A table is a file of decimal words, six to a row; # starts a comment. A sheet, which starts with rows=, does for a table everywhere.
 ",
     )
@@ -302,6 +306,28 @@ fn put_rehearsed(
     )
 }
 
+// The reading of the table beside its run.
+fn hold(
+    job: Job,
+    inputs: &[u32],
+    table: &[u32],
+    graph: &[u32],
+    state: &[u32],
+    answer: u32,
+    out: &mut [u8],
+) -> u32 {
+    let mut results = [0u32; 512];
+    let asked = job.asked;
+    let plain = engine::read_plain(table, inputs, &mut results, asked.turns);
+    let held = readings::put_held(out, answer, graph, state, plain, &results);
+    let n = held.count;
+    if held.differs {
+        io::write_all(job.err, &out[..n]);
+        return ERROR;
+    }
+    files::answer(job.out, job.err, &out[..n])
+}
+
 // What a rehearsal told goes to its channel.
 fn tell(job: Job, refused: bool, text: &[u8]) -> u32 {
     if refused {
@@ -311,10 +337,32 @@ fn tell(job: Job, refused: bool, text: &[u8]) -> u32 {
     files::answer(job.out, job.err, text)
 }
 
-// Above a drawing the answer stands as a comment.
+// What follows an answer: above a drawing it stands as a comment, and a reading is told below it.
+fn follow(
+    job: Job,
+    inputs: &[u32],
+    table: &[u32],
+    graph: &[u32],
+    nodes: &[u32],
+    wires: &[u32],
+    state: &[u32],
+    answer: u32,
+    out: &mut [u8],
+) -> u32 {
+    let asked = job.asked;
+    if job.command == DRAW {
+        return draw(job, graph, state, nodes, wires, out);
+    }
+    if asked.both {
+        return hold(job, inputs, table, graph, state, answer, out);
+    }
+    DONE
+}
+
 fn rehearse_in(
     job: Job,
     inputs: &[u32],
+    table: &[u32],
     graph: &[u32],
     nodes: &[u32],
     wires: &[u32],
@@ -325,10 +373,18 @@ fn rehearse_in(
     let rehearsed = put_rehearsed(job, inputs, graph, nodes, wires, order, state, out);
     let n = rehearsed.count;
     let told = tell(job, rehearsed.refused, &out[..n]);
-    if job.command == DRAW {
-        if told == DONE {
-            return draw(job, graph, state, nodes, wires, out);
-        }
+    if told == DONE {
+        return follow(
+            job,
+            inputs,
+            table,
+            graph,
+            nodes,
+            wires,
+            state,
+            rehearsed.answer,
+            out,
+        );
     }
     told
 }
@@ -336,6 +392,7 @@ fn rehearse_in(
 fn rehearse(
     job: Job,
     inputs: &[u32],
+    table: &[u32],
     graph: &[u32],
     nodes: &[u32],
     wires: &[u32],
@@ -347,6 +404,7 @@ fn rehearse(
     rehearse_in(
         job,
         inputs,
+        table,
         graph,
         nodes,
         wires,
@@ -360,6 +418,7 @@ fn run(
     job: Job,
     inputs: &[u32],
     line: &[u8],
+    table: &[u32],
     graph: &[u32],
     nodes: &[u32],
     wires: &[u32],
@@ -369,7 +428,7 @@ fn run(
     let got = order_of(job, line, graph, text, &mut order);
     if got.status == DONE {
         let n = got.count;
-        return rehearse(job, inputs, graph, nodes, wires, &order[..n], text);
+        return rehearse(job, inputs, table, graph, nodes, wires, &order[..n], text);
     }
     got.status
 }
@@ -378,6 +437,7 @@ fn on_named(
     job: Job,
     inputs: &[u32],
     line: &[u8],
+    table: &[u32],
     graph: &[u32],
     nodes: &[u32],
     wires: &[u32],
@@ -392,7 +452,7 @@ fn on_named(
             return draw(job, graph, &[], nodes, wires, text);
         }
     }
-    run(job, inputs, line, graph, nodes, wires, text)
+    run(job, inputs, line, table, graph, nodes, wires, text)
 }
 
 // The names of nodes and wires: three words for each of 4,096 and of 8,192. A table that was lowered has them.
@@ -408,9 +468,33 @@ fn on_graph(
     let mut wires = [0u32; 24576];
     let named = naming::name_graph(table, &mut nodes, &mut wires);
     if named.number != 0 {
-        return on_named(job, inputs, line, graph, &[], &[], text);
+        return on_named(job, inputs, line, table, graph, &[], &[], text);
     }
-    on_named(job, inputs, line, graph, &nodes, &wires, text)
+    on_named(job, inputs, line, table, graph, &nodes, &wires, text)
+}
+
+// Readings.
+
+fn read(
+    job: Job,
+    inputs: &[u32],
+    path: &[u8],
+    letters: usize,
+    table: &[u32],
+    text: &mut [u8],
+) -> u32
+    requires { ⌜ letters ≤ length (now text) ⌝ }
+{
+    let mut results = [0u32; 512];
+    let asked = job.asked;
+    let plain = engine::read_plain(table, inputs, &mut results, asked.turns);
+    let number = readings::rows_refusal(plain);
+    if number != 0 {
+        return refuse(job.err, path, &text[..letters], table, number);
+    }
+    let read = readings::put_read(text, table, inputs.len(), plain, &results);
+    let n = read.count;
+    tell(job, read.refused, &text[..n])
 }
 
 // Tables. Once a table is accepted its text is not needed: its memory holds the order list's file, then the answer.
@@ -456,6 +540,9 @@ fn on_table(
     }
     if is_written(job.command) {
         return write(job, path, letters, table, text);
+    }
+    if job.command == READ {
+        return read(job, inputs, path, letters, table, text);
     }
     let mut graph = [0u32; 30212];
     lower(job, inputs, line, path, letters, table, &mut graph, text)
@@ -504,19 +591,52 @@ fn alone(asked: Asked) -> Asked
     asked
 }
 
+fn drawable(asked: Asked) -> Asked
+    ensures { λ r. ⌜ r .inputs ≤ asked .inputs ⌝ }
+{
+    if asked.trace {
+        return arguments::wrong(asked, arguments::TRACE, 0);
+    }
+    if asked.both {
+        return arguments::wrong(asked, arguments::UNREAD, 0);
+    }
+    if asked.turned {
+        return arguments::wrong(asked, arguments::UNREAD, 0);
+    }
+    asked
+}
+
+fn readable(asked: Asked) -> Asked
+    ensures { λ r. ⌜ r .inputs ≤ asked .inputs ⌝ }
+{
+    if asked.steered {
+        return arguments::wrong(asked, arguments::UNRUN, 0);
+    }
+    asked
+}
+
+fn runnable(asked: Asked) -> Asked
+    ensures { λ r. ⌜ r .inputs ≤ asked .inputs ⌝ }
+{
+    if asked.turned {
+        if asked.both {
+            return asked;
+        }
+        return arguments::wrong(asked, arguments::UNTURNED, 0);
+    }
+    asked
+}
+
 // What a command does not take.
 fn fitting(command: u32, asked: Asked) -> Asked
     ensures { λ r. ⌜ r .inputs ≤ asked .inputs ⌝ }
 {
-    if command < RUN {
-        return alone(asked);
+    match command {
+        RUN => runnable(asked),
+        DRAW => drawable(asked),
+        READ => readable(asked),
+        _ => alone(asked),
     }
-    if command == DRAW {
-        if asked.trace {
-            return arguments::wrong(asked, arguments::TRACE, 0);
-        }
-    }
-    asked
 }
 
 // What is wrong, behind the argument that it is about.
@@ -561,6 +681,9 @@ fn command_of(name: &[u8]) -> u32 {
     }
     if text::same(name, b"draw") {
         return DRAW;
+    }
+    if text::same(name, b"read") {
+        return READ;
     }
     0
 }

@@ -63,10 +63,11 @@ fn put_numbers(out: &mut [u8], at: usize, number: u32, graph: &[u32], given: usi
     }
 }
 
-// How many letters a rehearsal put, and whether they tell a refusal.
+// How many letters a rehearsal put, whether they tell a refusal, and else the number of the run's answer.
 pub struct Rehearsed {
     pub count: usize,
     pub refused: bool,
+    pub answer: u32,
 }
 
 // A refusal of a graph, its inputs or an order list.
@@ -78,6 +79,7 @@ fn put_refused(out: &mut [u8], number: u32, graph: &[u32], given: usize) -> Rehe
     Rehearsed {
         count: text::put_letter(out, b, b'\n'),
         refused: true,
+        answer: 0,
     }
 }
 
@@ -218,6 +220,17 @@ fn refusal_of(ran: Ran) -> u32 {
     }
 }
 
+// The number by which a run's answer is named.
+fn answer_of(ran: Ran) -> u32 {
+    match ran {
+        Ran::Complete(firings) => 0,
+        Ran::ZeroStep(firings, node) => 1,
+        Ran::Stranded(firings) => 2,
+        Ran::Spent(firings) => 3,
+        Ran::Refused(number) => 0,
+    }
+}
+
 // Loads and runs a graph in the lent state, which has the length that the graph asks, told as `how` says, and tells the answer, the firings, the counts and the results.
 // `nodes` and `wires` are the names of `roles`; without them rows and roles are left out.
 pub fn run_graph(
@@ -261,6 +274,7 @@ fn put_rested(
     Rehearsed {
         count: put_results(out, b, graph, state),
         refused: false,
+        answer: answer_of(ran),
     }
 }
 
@@ -297,6 +311,7 @@ fn put_drawn(out: &mut [u8], graph: &[u32], nodes: &[u32], ran: Ran) -> Rehearse
     Rehearsed {
         count: put_answered(out, n, graph, nodes, ran),
         refused: false,
+        answer: answer_of(ran),
     }
 }
 

@@ -5,12 +5,6 @@ use lib.Seq.{length-take-le}
 use borrow.Author.Needs.{needs}
 use Rattle.commands.proofs.on_table.Statement.{statement}
 use Rattle.commands.proofs.on_table.Tie as tie
-use Rattle.commands.proofs.on_table.Reads as reads
-use Rattle.commands.proofs.on_table.Lts as lts
-use Rattle.commands.proofs.check.Reads as check-reads
-use Rattle.commands.proofs.is_written.Reads as is-written-reads
-use Rattle.commands.proofs.lower.Reads as lower-reads
-use Rattle.commands.proofs.write.Reads as write-reads
 
 slice-reshare-prefix-check : tie.Need-slice-reshare-prefix-check
 slice-reshare-prefix-check c = search needs
@@ -39,17 +33,26 @@ same-length-2 c = search needs
 returns-2 : tie.Need-returns-2
 returns-2 c = search needs
 
-slice-aggregate-lower : tie.Need-slice-aggregate-lower
-slice-aggregate-lower c = search needs
-
-lower-requires : tie.Need-lower-requires
-lower-requires c κs = search needs
+read-requires : tie.Need-read-requires
+read-requires c κs = search needs
 
 same-length-3 : tie.Need-same-length-3
 same-length-3 c = search needs
 
 returns-3 : tie.Need-returns-3
 returns-3 c = search needs
+
+slice-aggregate-lower : tie.Need-slice-aggregate-lower
+slice-aggregate-lower c = search needs
+
+lower-requires : tie.Need-lower-requires
+lower-requires c κs = search needs
+
+same-length-4 : tie.Need-same-length-4
+same-length-4 c = search needs
+
+returns-4 : tie.Need-returns-4
+returns-4 c = search needs
 
 pub on-table-spec : {M : Type 1} → statement M
 on-table-spec =
@@ -64,7 +67,10 @@ on-table-spec =
     write-requires
     same-length-2
     returns-2
+    read-requires
+    same-length-3
+    returns-3
     slice-aggregate-lower
     lower-requires
-    same-length-3
-    returns-3)
+    same-length-4
+    returns-4)

@@ -18,8 +18,8 @@ slice-aggregate-tell c = sym (length-take-le _ _ (omega arith))
 tell-requires : tie.Need-tell-requires
 tell-requires c κs = search needs
 
-draw-requires : tie.Need-draw-requires
-draw-requires c κs = search needs
+follow-requires : tie.Need-follow-requires
+follow-requires c κs = search needs
 
 same-length : tie.Need-same-length
 same-length c = search needs
@@ -39,15 +39,6 @@ same-length-4 c = search needs
 returns-2 : tie.Need-returns-2
 returns-2 c = search needs
 
-same-length-5 : tie.Need-same-length-5
-same-length-5 c = search needs
-
-same-length-6 : tie.Need-same-length-6
-same-length-6 c = search needs
-
-returns-3 : tie.Need-returns-3
-returns-3 c = search needs
-
 pub rehearse-in-spec : {M : Type 1} → statement M
 rehearse-in-spec =
     tie.close
@@ -56,13 +47,10 @@ rehearse-in-spec =
     slice-reshare-prefix-tell
     slice-aggregate-tell
     tell-requires
-    draw-requires
+    follow-requires
     same-length
     same-length-2
     returns
     same-length-3
     same-length-4
-    returns-2
-    same-length-5
-    same-length-6
-    returns-3)
+    returns-2)
