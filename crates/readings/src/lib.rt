@@ -1,5 +1,5 @@
 // A reading of a table without its graph, told; and the run of the table's graph held to it.
-ghost use Prim.Native.Nat.{_≤_, _+_};
+ghost use Prim.Native.Nat.{_≤_};
 ghost use lib.ListN.{length};
 use engine::Plain;
 
@@ -34,29 +34,12 @@ fn least(a: usize, b: usize) -> usize
     b
 }
 
-// One more where row r is of a kind.
-fn one_more(table: &[u32], r: usize, kind: u32, rows: usize) -> usize
-    requires { ⌜ (r ≤ 512) × (rows ≤ r) ⌝ }
-    ensures { λ n. ⌜ n ≤ r + 1 ⌝ }
-{
-    if drawn::word_at(table, 6 * r) == kind {
-        return rows + 1;
-    }
-    rows
-}
-
 // How many rows of a kind there are.
 fn rows_of(table: &[u32], kind: u32) -> usize
     ensures { λ n. ⌜ n ≤ 512 ⌝ }
 {
-    let last = least(table.len() / 6, 512);
-    let mut rows: usize = 0;
-    let mut r: usize = 0;
-    while r < last {
-        rows = one_more(table, r, kind, rows);
-        r += 1;
-    }
-    rows
+    let n = least(table.len() / 6, 512) as u32;
+    turning::count_rows(table, n, kind) as usize
 }
 
 // The row that a FOR's step is.

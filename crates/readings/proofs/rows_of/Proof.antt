@@ -1,46 +1,32 @@
--- `readings::rows_of` meets its contract: no more rows of a kind than rows. Assumes nothing.
-use Prim.Native.Nat.{_≤_, _-_}
+use Rattle.table.specs.Counted.{rows-few}
+use native.Mathlib.Omega.{arith}
 use borrow.Author.Needs.{needs}
 use Rattle.readings.proofs.rows_of.Statement.{statement}
 use Rattle.readings.proofs.rows_of.Tie as tie
+use Rattle.readings.proofs.rows_of.Reads as reads
+use Rattle.readings.proofs.rows_of.Lts as lts
+use Rattle.readings.proofs.least.Reads as least-reads
+use Rattle.turning.proofs.count_rows.Reads as count-rows-reads
 
-abbrev Inv-loop : tie.InvT-loop
-Inv-loop table kind last rows₀ r₀ rows r = (r ≤ last) × (last ≤ 512) × (rows ≤ r)
-
-abbrev μ-loop : tie.MeasureT-loop
-μ-loop table kind last rows₀ r₀ rows r = last - r
-
-least-requires : tie.Need-least-requires Inv-loop μ-loop
+-- src/lib.rt:41:13
+least-requires : tie.Need-least-requires
 least-requires c κs = search needs
 
-loop-holds : tie.Need-loop-holds Inv-loop μ-loop
-loop-holds c = search needs
+-- src/lib.rt:41:13
+cast-n : tie.Need-cast-n
+cast-n c = search needs
 
-one-more-requires : tie.Need-one-more-requires Inv-loop μ-loop
-one-more-requires c κs = search needs
+-- src/lib.rt:42:5
+count-rows-requires : tie.Need-count-rows-requires
+count-rows-requires c κs = search needs
 
-add-r : tie.Need-add-r Inv-loop μ-loop
-add-r c = search needs
+-- src/lib.rt:42:5
+cast-result : tie.Need-cast-result
+cast-result c = search needs
 
-loop-less : tie.Need-loop-less Inv-loop μ-loop
-loop-less c = search needs
-
-loop-again : tie.Need-loop-again Inv-loop μ-loop
-loop-again c = search needs
-
-returns : tie.Need-returns Inv-loop μ-loop
-returns c = search needs
+-- src/lib.rt:38:1
+returns : tie.Need-returns
+returns c = let e = c .count-rows .ensures in let l = c .before .least .ensures .1 in let f = rows-few (c .before .before .before .args .kind) (c .before .before .before .args .table .now) (c .before .least .result) in omega arith
 
 pub rows-of-spec : {M : Type 1} → statement M
-rows-of-spec =
-    tie.close
-    (tie.spec
-    Inv-loop
-    μ-loop
-    least-requires
-    loop-holds
-    one-more-requires
-    add-r
-    loop-less
-    loop-again
-    returns)
+rows-of-spec = tie.close (tie.spec least-requires cast-n count-rows-requires cast-result returns)
