@@ -1,39 +1,19 @@
--- `shift_right` answers `shiftRight`. Invariant: `word` is x shifted by the places done. Measure: the places left.
+-- `shift_right` answers `shiftRight`: the test on the places is the definition's own, and the language's shift is its power of two.
 -- Assumes nothing.
-use Prim.Native.Nat.{_-_, _/_, _^_, _≤_}
-use mathlib.Core.Path.{_≡_}
 use native.Mathlib.Omega.{arith}
 use borrow.Author.Tests.{lt-ltb, le-ltb}
-use Rattle.word.proofs.Shifts.{right-by-one-more}
+use borrow.Author.Needs.{needs}
 use Rattle.word.proofs.shift_right.Statement.{statement}
 use Rattle.word.proofs.shift_right.Tie as tie
 
-abbrev Inv-loop : tie.InvT-loop
-Inv-loop x places word₀ done₀ word done = (done ≤ places) × (word ≡ x / 2 ^ done)
-
-abbrev μ-loop : tie.MeasureT-loop
-μ-loop x places word₀ done₀ word done = places - done
-
-returns : tie.Need-returns Inv-loop μ-loop
+returns : tie.Need-returns
 returns c = rw (le-ltb (c .before .args .places) 32 (omega arith))
 
-loop-holds : tie.Need-loop-holds Inv-loop μ-loop
-loop-holds c = (omega arith, omega arith)
+shr-result : tie.Need-shr-result
+shr-result c = search needs
 
-add-done : tie.Need-add-done Inv-loop μ-loop
-add-done c = omega arith
-
-loop-less : tie.Need-loop-less Inv-loop μ-loop
-loop-less c = omega arith
-
-loop-again : tie.Need-loop-again Inv-loop μ-loop
-loop-again c = (omega arith, rw (c .before .loop .inv .1) (right-by-one-more _ _))
-
-returns-2 : tie.Need-returns-2 Inv-loop μ-loop
-returns-2 c = let places = c .before .before .before .args .places in
-    let all : c .before .loop .done ≡ places = omega arith in
-    rw (lt-ltb places 32 (omega arith), ← all) (c .before .loop .inv .1)
+returns-2 : tie.Need-returns-2
+returns-2 c = rw (lt-ltb (c .before .args .places) 32 (omega arith))
 
 pub shift-right-spec : {M : Type 1} → statement M
-shift-right-spec =
-    tie.close (tie.spec Inv-loop μ-loop returns loop-holds add-done loop-less loop-again returns-2)
+shift-right-spec = tie.close (tie.spec returns shr-result returns-2)
