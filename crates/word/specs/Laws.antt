@@ -3,14 +3,16 @@
 -- Main results: `condition-flag`, `update-word`, `operate-word`, `operate-flag`, `operate-condition`, and
 -- `condition-beyond`, `update-beyond`, `operate-beyond`.
 -- Assumes nothing.
-use Prim.Native.Nat.{ℕ, _+_, _-_, _*_, _%_, _^_, _<_, _≤_}
-use mathlib.Core.Path.{_≡_, _∙_}
+use Prim.Native.Nat.{ℕ, zero, suc, _+_, _-_, _*_, _/_, _%_, _^_, _<_, _≤_}
+use mathlib.Core.Path.{_≡_, refl, _∙_}
 use mathlib.Core.Bool.{Bool, true, false, not}
 use native.Mathlib.Omega.{arith}
 use native.Mathlib.Nat.{mod-lt, div-le-self, lt-of-le-of-lt}
-use borrow.Author.Tests.{ne-eqb}
-use lib.Dec.{ltb, leb, eqb}
-use Rattle.word.specs.Words.{pick, wordLimit, flag, product, quotient, shiftLeft, shiftRight, update, condition, operate}
+use borrow.Author.Tests.{ne-eqb, ltb-true, ltb-false}
+use lib.Dec.{ltb, eqb}
+use lib.IntN.{ℤ, pos, negsuc, negℤ, natAbs}
+use lib.Signed.{ltZ, leZ, quotZ, shrZ}
+use Rattle.word.specs.Words.{pick, wordLimit, valueOf, wordOf, flag, product, quotient, shiftLeft, shiftRight, update, condition, operate}
 
 pub pick-below : (b : Bool) {x y k : ℕ} → x < k → y < k → pick b x y < k
 pick-below true hx hy = hx
@@ -26,23 +28,57 @@ remainder-word n = mod-lt n (omega arith)
 product-word : (x y : ℕ) → product x y < wordLimit
 product-word x y = remainder-word (x * y)
 
+-- What holds of both readings of a word holds of its value.
+pub by-sign {ℓ} : (P : ℤ → Type ℓ) (x : ℕ) → (x < 2147483648 → P (pos x)) → (2147483648 ≤ x → P (negsuc (4294967295 - x))) → P (valueOf x)
+by-sign P x f g = by (ltb x 2147483648) refl
+  where
+    by : (t : Bool) → ltb x 2147483648 ≡ t → P (pick t (pos x) (negsuc (4294967295 - x)))
+    by true e = f (ltb-true x 2147483648 e)
+    by false e = g (ltb-false x 2147483648 e)
+
+value-near : (x : ℕ) → x < wordLimit → natAbs (valueOf x) < wordLimit
+value-near x h = by-sign (λ z. natAbs z < wordLimit) x (λ p. h) (λ p. omega arith)
+
+word-of-near : (z : ℤ) → natAbs z < wordLimit → wordOf z < wordLimit
+word-of-near (pos n) h = h
+word-of-near (negsuc n) h = omega arith
+
+abs-negative : (n : ℕ) → natAbs (negℤ (pos n)) ≤ n
+abs-negative zero = omega arith
+abs-negative (suc n) = omega arith
+
+-- Neither a quotient nor a shift to the right leads away from 0.
+quotient-nearer : (a b : ℤ) → natAbs (quotZ a b) ≤ natAbs a
+quotient-nearer (pos a) (pos b) = div-le-self a b
+quotient-nearer (pos a) (negsuc b) = let q = div-le-self a (suc b) in let n = abs-negative (a / suc b) in omega arith
+quotient-nearer (negsuc a) (pos b) = let q = div-le-self (suc a) b in let n = abs-negative (suc a / b) in omega arith
+quotient-nearer (negsuc a) (negsuc b) = div-le-self (suc a) (suc b)
+
+shift-nearer : (a : ℤ) (m : ℕ) → natAbs (shrZ a m) ≤ natAbs a
+shift-nearer (pos a) m = div-le-self a m
+shift-nearer (negsuc a) m = let q = div-le-self a m in omega arith
+
 quotient-word : (x y : ℕ) → x < wordLimit → quotient x y < wordLimit
-quotient-word x y h = pick-below (eqb y 0) (omega arith) (lt-of-le-of-lt (div-le-self x y) h)
+quotient-word x y h =
+    pick-below (eqb y 0) (omega arith)
+    (word-of-near (quotZ (valueOf x) (valueOf y)) (lt-of-le-of-lt (quotient-nearer (valueOf x) (valueOf y)) (value-near x h)))
 
 shift-left-word : (x n : ℕ) → shiftLeft x n < wordLimit
 shift-left-word x n = pick-below (ltb n 32) (remainder-word (x * 2 ^ n)) (omega arith)
 
 shift-right-word : (x n : ℕ) → x < wordLimit → shiftRight x n < wordLimit
-shift-right-word x n h = pick-below (ltb n 32) (lt-of-le-of-lt (div-le-self x (2 ^ n)) h) (omega arith)
+shift-right-word x n h =
+    let m : ℕ = 2 ^ pick (ltb n 32) n 32 in
+    word-of-near (shrZ (valueOf x) m) (lt-of-le-of-lt (shift-nearer (valueOf x) m) (value-near x h))
 
 -- A condition answers a flag.
 pub condition-flag : (c x y : ℕ) → condition c x y < 2
 unfolding condition
 condition-flag c x y =
-    pick-below (eqb c 0) (flag-below (ltb x y))
-    (pick-below (eqb c 1) (flag-below (leb x y))
-    (pick-below (eqb c 2) (flag-below (ltb y x))
-    (pick-below (eqb c 3) (flag-below (leb y x))
+    pick-below (eqb c 0) (flag-below (ltZ (valueOf x) (valueOf y)))
+    (pick-below (eqb c 1) (flag-below (leZ (valueOf x) (valueOf y)))
+    (pick-below (eqb c 2) (flag-below (ltZ (valueOf y) (valueOf x)))
+    (pick-below (eqb c 3) (flag-below (leZ (valueOf y) (valueOf x)))
     (pick-below (eqb c 4) (flag-below (not (eqb x y)))
     (omega arith)))))
 

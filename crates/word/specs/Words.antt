@@ -1,10 +1,13 @@
 -- Words and flags: docs/RULES.md, section 'Words and flags', whose sentences stand above what renders them.
 -- Main definitions: `condition`, `update`, `operate`, each total: a code beyond its list gives 0.
--- `pick` and `flag` turn a test into a choice and into a flag; the rules are written with them.
+-- `valueOf` reads a word with a sign, as one of the library's integers; the rules that have to do with a sign are written over it.
+-- `pick` and `flag` turn a test into a choice and into a flag.
 -- Assumes nothing.
-use Prim.Native.Nat.{ℕ, _+_, _-_, _*_, _/_, _%_, _^_}
+use Prim.Native.Nat.{ℕ, _+_, _-_, _*_, _%_, _^_}
 use mathlib.Core.Bool.{Bool, true, false, not}
-use lib.Dec.{ltb, leb, eqb}
+use lib.Dec.{ltb, eqb}
+use lib.IntN.{ℤ, pos, negsuc}
+use lib.Signed.{ltZ, leZ, quotZ, shrZ}
 
 -- The first of two things where a test holds, else the second.
 abbrev pub pick {ℓ} : {A : Type ℓ} → Bool → A → A → A
@@ -20,6 +23,15 @@ abbrev pub flag : Bool → ℕ
 flag true = 1
 flag false = 0
 
+-- 'Read with a sign, a word below 2^31 is itself, and any other is that number less 2^32.' The integer `negsuc n` is -(n + 1).
+abbrev pub valueOf : ℕ → ℤ
+valueOf x = pick (ltb x 2147483648) (pos x) (negsuc (4294967295 - x))
+
+-- The word of a number from -2^32 to 2^32 - 1: that number, or what it is less than 2^32.
+abbrev pub wordOf : ℤ → ℕ
+wordOf (pos n) = n
+wordOf (negsuc n) = 4294967295 - n
+
 -- 'A sum or difference that leaves the words comes round at 2^32.'
 abbrev pub sum : ℕ → ℕ → ℕ
 sum x y = (x + y) % wordLimit
@@ -31,16 +43,18 @@ difference x y = (x + (wordLimit - y)) % wordLimit
 abbrev pub product : ℕ → ℕ → ℕ
 product x y = x * y % wordLimit
 
--- 'A quotient is rounded down; a quotient by 0 is 0.'
+-- 'A quotient is of the values, rounded toward zero; a quotient by 0 is 0.'
+-- The least value divided by -1 is 2^31, whose word is that of the least value.
 abbrev pub quotient : ℕ → ℕ → ℕ
-quotient x y = pick (eqb y 0) 0 (x / y)
+quotient x y = pick (eqb y 0) 0 (wordOf (quotZ (valueOf x) (valueOf y)))
 
--- 'A shift by 32 places or more leaves nothing, that is, 0. A left shift drops what passes the 32nd place.'
+-- 'A left shift drops what passes the 32nd place, and by 32 places or more it leaves 0.'
 abbrev pub shiftLeft : ℕ → ℕ → ℕ
 shiftLeft x places = pick (ltb places 32) (x * 2 ^ places % wordLimit) 0
 
+-- 'A right shift repeats the sign bit: the value is divided by a power of two and rounded down. By 32 places or more it does what 32 places do.'
 abbrev pub shiftRight : ℕ → ℕ → ℕ
-shiftRight x places = pick (ltb places 32) (x / 2 ^ places) 0
+shiftRight x places = wordOf (shrZ (valueOf x) (2 ^ pick (ltb places 32) places 32))
 
 -- 'Updates: 0 `+=`, 1 `-=`, 2 `*=`, 3 `/=`, 4 `<<=`, 5 `>>=`.' Code, index, step.
 -- 'A code beyond its list answers 0.'
@@ -54,13 +68,13 @@ update code index step =
     (pick (eqb code 5) (shiftRight index step)
     0)))))
 
--- 'Conditions: 0 `<`, 1 `<=`, 2 `>`, 3 `>=`, 4 `!=`, unsigned; each answers a flag.' Code, x, y.
+-- 'Conditions: 0 `<`, 1 `<=`, 2 `>`, 3 `>=`, 4 `!=`, of the values; each answers a flag.' Code, x, y. Words that differ have values that differ.
 unfoldable pub condition : ℕ → ℕ → ℕ → ℕ
 condition code x y =
-    pick (eqb code 0) (flag (ltb x y))
-    (pick (eqb code 1) (flag (leb x y))
-    (pick (eqb code 2) (flag (ltb y x))
-    (pick (eqb code 3) (flag (leb y x))
+    pick (eqb code 0) (flag (ltZ (valueOf x) (valueOf y)))
+    (pick (eqb code 1) (flag (leZ (valueOf x) (valueOf y)))
+    (pick (eqb code 2) (flag (ltZ (valueOf y) (valueOf x)))
+    (pick (eqb code 3) (flag (leZ (valueOf y) (valueOf x)))
     (pick (eqb code 4) (flag (not (eqb x y)))
     0))))
 

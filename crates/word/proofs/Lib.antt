@@ -1,0 +1,2 @@
+-- The signs of words, for the functions' proofs.
+pub mod Signs
