@@ -59,8 +59,8 @@ register =
     ∷ record { given = streams 1 1 8 4 1; printed = rests (1 ∷ 2 ∷ 4 ∷ 8 ∷ 16 ∷ []) (T ∷ T ∷ T ∷ T ∷ F ∷ []) }
     -- P5 from 1 by 32 to 0, `<<=`, `!=`
     ∷ record { given = streams 1 32 0 4 4; printed = rests (1 ∷ 0 ∷ []) (T ∷ F ∷ []) }
-    -- P6 from 4,294,967,294 by 1 to 2, `+=`, `<`
-    ∷ record { given = streams 4294967294 1 2 0 0; printed = rests (4294967294 ∷ []) (F ∷ []) }
+    -- P6 from 4,294,967,294 by 1 to 2, `+=`, `<`: from -2
+    ∷ record { given = streams 4294967294 1 2 0 0; printed = rests (4294967294 ∷ 4294967295 ∷ 0 ∷ 1 ∷ 2 ∷ []) (T ∷ T ∷ T ∷ T ∷ F ∷ []) }
     -- P7 GATE: 'values A B C D E, conditions TTTTF'
     ∷ record {
       given = shown (drive GATE 0 most (start (1 ∷ 2 ∷ 3 ∷ 4 ∷ 5 ∷ []) (T ∷ T ∷ T ∷ T ∷ F ∷ []) []));

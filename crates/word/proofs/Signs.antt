@@ -1,20 +1,20 @@
 -- The signs that the code works out on words, against the values.
--- Main results: `below-turned`, `at-most-turned` (words with their sign bits turned are ordered as their values), `signs-alike`,
--- `signs-apart` (a quotient is the magnitudes' with a sign), `minus`, `shifted-far`, `not-negative`, `is-negative` (what a right shift leaves).
+-- Main results: `below-found`, `at-most-found` (words with their sign bits turned are ordered as their values), `sign-told`, `near`, `far`, `minus`
+-- (sign, magnitude, negative), `signs-alike`, `signs-apart` (a quotient is the magnitudes' with a sign), `shift-positive`, `shift-negative`.
 -- Assumes nothing.
-use Prim.Native.Nat.{ℕ, zero, suc, _+_, _-_, _/_, _%_, _^_, _<_, _≤_}
+use Prim.Native.Nat.{ℕ, zero, suc, _+_, _-_, _/_, _%_, _<_, _≤_}
 use mathlib.Core.Bool.{Bool, true, false, not, Bool·beq}
 use mathlib.Core.Path.{_≡_, refl, sym, ap, subst, subst⁻¹, _∙_}
 use native.Mathlib.Omega.{arith}
 use native.Mathlib.Numerals.{add-one}
-use borrow.Author.Tests.{ne-eqb, lt-ltb, le-ltb, le-leb, lt-leb, ltb-true, ltb-false, leb-true, leb-false}
+use borrow.Author.Tests.{ne-eqb, lt-ltb, le-ltb, le-leb, lt-leb, ltb-true, ltb-false}
 use lib.Dec.{T, ltb, leb}
 use lib.IntN.{ℤ, pos, negsuc, negℤ, natAbs}
 use lib.Signed.{ltZ, leZ, nonNeg, quotZ, shrZ}
-use Rattle.word.specs.Laws.{by-sign}
-use Rattle.word.specs.Words.{pick, wordLimit, valueOf, wordOf, sum, quotient, shiftRight}
+use Rattle.word.specs.Laws.{by-sign, le-not-lt, at-most-not-more}
+use Rattle.word.specs.Words.{wordLimit, valueOf, wordOf, sum, quotient}
 
--- Two tests agree where each answer of the first forces the second's.
+-- Two tests agree where each answer of the first forces that of the second.
 same-lt : (a b c d : ℕ) → (a < b → c < d) → (b ≤ a → d ≤ c) → ltb a b ≡ ltb c d
 same-lt a b c d f g = by (ltb a b) refl
   where
@@ -22,45 +22,29 @@ same-lt a b c d f g = by (ltb a b) refl
     by true e = sym (lt-ltb c d (f (ltb-true a b e)))
     by false e = sym (le-ltb c d (g (ltb-false a b e)))
 
-same-le : (a b c d : ℕ) → (a ≤ b → c ≤ d) → (b < a → d < c) → leb a b ≡ leb c d
-same-le a b c d f g = by (leb a b) refl
-  where
-    by : (t : Bool) → leb a b ≡ t → t ≡ leb c d
-    by true e = sym (le-leb c d (f (leb-true a b e)))
-    by false e = sym (lt-leb c d (g (leb-false a b e)))
-
 -- A word with its sign bit turned.
 abbrev turned : ℕ → ℕ
 turned x = sum x 2147483648
 
-module _ (x y : ℕ) (hx : x < wordLimit) (hy : y < wordLimit) where
-  below-turned : ltb (turned x) (turned y) ≡ ltZ (valueOf x) (valueOf y)
-  below-turned =
-      by-sign (λ a. ltb (turned x) (turned y) ≡ ltZ a (valueOf y)) x
-      (λ p. by-sign (λ b. ltb (turned x) (turned y) ≡ ltZ (pos x) b) y
-        (λ q. same-lt (turned x) (turned y) x y (λ h. omega arith) (λ h. omega arith))
-        (λ q. le-ltb (turned x) (turned y) (omega arith)))
-      (λ p. by-sign (λ b. ltb (turned x) (turned y) ≡ ltZ (negsuc (4294967295 - x)) b) y
-        (λ q. lt-ltb (turned x) (turned y) (omega arith))
-        (λ q. same-lt (turned x) (turned y) (4294967295 - y) (4294967295 - x) (λ h. omega arith) (λ h. omega arith)))
+below-turned : (x y : ℕ) → x < wordLimit → y < wordLimit → ltb (turned x) (turned y) ≡ ltZ (valueOf x) (valueOf y)
+below-turned x y hx hy =
+    by-sign (λ a. ltb (turned x) (turned y) ≡ ltZ a (valueOf y)) x
+    (λ p. by-sign (λ b. ltb (turned x) (turned y) ≡ ltZ (pos x) b) y
+    (λ q. same-lt (turned x) (turned y) x y (λ h. omega arith) (λ h. omega arith))
+    (λ q. le-ltb (turned x) (turned y) (omega arith)))
+    (λ p. by-sign (λ b. ltb (turned x) (turned y) ≡ ltZ (negsuc (4294967295 - x)) b) y
+    (λ q. lt-ltb (turned x) (turned y) (omega arith))
+    (λ q. same-lt (turned x) (turned y) (4294967295 - y) (4294967295 - x) (λ h. omega arith) (λ h. omega arith)))
 
-  at-most-turned : leb (turned x) (turned y) ≡ leZ (valueOf x) (valueOf y)
-  at-most-turned =
-      by-sign (λ a. leb (turned x) (turned y) ≡ leZ a (valueOf y)) x
-      (λ p. by-sign (λ b. leb (turned x) (turned y) ≡ leZ (pos x) b) y
-        (λ q. same-le (turned x) (turned y) x y (λ h. omega arith) (λ h. omega arith))
-        (λ q. lt-leb (turned x) (turned y) (omega arith)))
-      (λ p. by-sign (λ b. leb (turned x) (turned y) ≡ leZ (negsuc (4294967295 - x)) b) y
-        (λ q. le-leb (turned x) (turned y) (omega arith))
-        (λ q. same-le (turned x) (turned y) (4294967295 - y) (4294967295 - x) (λ h. omega arith) (λ h. omega arith)))
+-- The same of what the code has turned.
+module _ (x y : ℕ) (hx : x < wordLimit) (hy : y < wordLimit) {a b : ℕ} (ha : a ≡ turned x) (hb : b ≡ turned y) where
+  pub below-found : ltb a b ≡ ltZ (valueOf x) (valueOf y)
+  below-found = ap (λ (k : ℕ). ltb k b) ha ∙ ap (λ (k : ℕ). ltb (turned x) k) hb ∙ below-turned x y hx hy
 
-  -- The same of what the code has turned.
-  module _ {a b : ℕ} (ha : a ≡ turned x) (hb : b ≡ turned y) where
-    pub below-found : ltb a b ≡ ltZ (valueOf x) (valueOf y)
-    below-found = ap (λ (k : ℕ). ltb k b) ha ∙ ap (λ (k : ℕ). ltb (turned x) k) hb ∙ below-turned
-
-    pub at-most-found : leb a b ≡ leZ (valueOf x) (valueOf y)
-    at-most-found = ap (λ (k : ℕ). leb k b) ha ∙ ap (λ (k : ℕ). leb (turned x) k) hb ∙ at-most-turned
+pub at-most-found :
+    (x y : ℕ) → x < wordLimit → y < wordLimit → {a b : ℕ} → a ≡ turned x → b ≡ turned y → leb a b ≡ leZ (valueOf x) (valueOf y)
+at-most-found x y hx hy {a} {b} ha hb =
+    le-not-lt a b ∙ ap not (below-found y x hy hx hb ha) ∙ sym (at-most-not-more (valueOf x) (valueOf y))
 
 -- A word's sign.
 pub sign-told : (x : ℕ) → leb 2147483648 x ≡ not (nonNeg (valueOf x))

@@ -1,5 +1,6 @@
 -- What crates above may know of words: which answers are flags, which are words, what a code beyond its list gives,
--- and that the operators from code 3 on are the conditions. Crates above cite these laws and leave the definitions shut.
+-- and that the operators from code 3 on are the conditions. Crates above cite these laws and leave the definitions shut; what holds of the values is
+-- in `Values`.
 -- Main results: `condition-flag`, `update-word`, `operate-word`, `operate-flag`, `operate-condition`, and
 -- `condition-beyond`, `update-beyond`, `operate-beyond`.
 -- Assumes nothing.
@@ -8,8 +9,8 @@ use mathlib.Core.Path.{_≡_, refl, _∙_}
 use mathlib.Core.Bool.{Bool, true, false, not}
 use native.Mathlib.Omega.{arith}
 use native.Mathlib.Nat.{mod-lt, div-le-self, lt-of-le-of-lt}
-use borrow.Author.Tests.{ne-eqb, ltb-true, ltb-false}
-use lib.Dec.{ltb, eqb}
+use borrow.Author.Tests.{ne-eqb, lt-leb, le-leb, ltb-true, ltb-false}
+use lib.Dec.{ltb, leb, eqb}
 use lib.IntN.{ℤ, pos, negsuc, negℤ, natAbs}
 use lib.Signed.{ltZ, leZ, quotZ, shrZ}
 use Rattle.word.specs.Words.{pick, wordLimit, valueOf, wordOf, flag, product, quotient, shiftLeft, shiftRight, update, condition, operate}
@@ -35,6 +36,20 @@ by-sign P x f g = by (ltb x 2147483648) refl
     by : (t : Bool) → ltb x 2147483648 ≡ t → P (pick t (pos x) (negsuc (4294967295 - x)))
     by true e = f (ltb-true x 2147483648 e)
     by false e = g (ltb-false x 2147483648 e)
+
+-- The two orders: at most is not more.
+pub le-not-lt : (a b : ℕ) → leb a b ≡ not (ltb b a)
+le-not-lt a b = by (ltb b a) refl
+  where
+    by : (t : Bool) → ltb b a ≡ t → leb a b ≡ not t
+    by true e = lt-leb a b (ltb-true b a e)
+    by false e = le-leb a b (ltb-false b a e)
+
+pub at-most-not-more : (a b : ℤ) → leZ a b ≡ not (ltZ b a)
+at-most-not-more (pos a) (pos b) = le-not-lt a b
+at-most-not-more (pos a) (negsuc b) = refl
+at-most-not-more (negsuc a) (pos b) = refl
+at-most-not-more (negsuc a) (negsuc b) = le-not-lt b a
 
 value-near : (x : ℕ) → x < wordLimit → natAbs (valueOf x) < wordLimit
 value-near x h = by-sign (λ z. natAbs z < wordLimit) x (λ p. h) (λ p. omega arith)
