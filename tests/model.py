@@ -14,7 +14,8 @@
 
 It shares nothing with the library: tables, graphs and states are Python objects here, and words only at the edges.
 """
-import sys
+import math, sys
+from fractions import Fraction
 
 X = 4294967295
 MOD = 2 ** 32
@@ -26,7 +27,13 @@ SORTS = [1, 2, 2, 2, 2, 2, 2, 1, 1]
 PHASES = [2, 2, 3, 2, 1, 1, 1, 1, 1]
 
 
+def value(x):
+    """Words and flags: a word read with a sign."""
+    return int.from_bytes(x.to_bytes(4, 'little'), 'little', signed=True)
+
+
 def condition(code, x, y):
+    x, y = value(x), value(y)
     return int([x < y, x <= y, x > y, x >= y, x != y][code])
 
 
@@ -35,9 +42,9 @@ def update(code, x, y):
     if code == 0: return (x + y) % MOD
     if code == 1: return (x - y) % MOD
     if code == 2: return x * y % MOD
-    if code == 3: return x // y
+    if code == 3: return math.trunc(Fraction(value(x), value(y))) % MOD
     if code == 4: return 0 if y >= 32 else (x << y) % MOD
-    return 0 if y >= 32 else x >> y
+    return (value(x) >> min(y, 32)) % MOD
 
 
 def operator(code, x, y):

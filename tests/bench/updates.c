@@ -11,9 +11,9 @@ __attribute__((noinline)) uint32_t c_update(uint32_t code, uint32_t index, uint3
     case 0: return index + step;
     case 1: return index - step;
     case 2: return index * step;
-    case 3: return step == 0 ? 0 : index / step;
+    case 3: return step == 0 ? 0 : step == UINT32_MAX ? 0 - index : (uint32_t)((int32_t)index / (int32_t)step);
     case 4: return step < 32 ? index << step : 0;
-    case 5: return step < 32 ? index >> step : 0;
+    case 5: return (uint32_t)((int32_t)index >> (step < 32 ? step : 31));
     default: return 0;
     }
 }

@@ -93,11 +93,12 @@ static Read check(const u32 *t, size_t len, Shape *x)
 
 static inline u32 condition(u32 c, u32 x, u32 y)
 {
+    int32_t a = (int32_t)x, b = (int32_t)y;
     switch (c) {
-    case 0: return x < y;
-    case 1: return x <= y;
-    case 2: return x > y;
-    case 3: return x >= y;
+    case 0: return a < b;
+    case 1: return a <= b;
+    case 2: return a > b;
+    case 3: return a >= b;
     default: return x != y;
     }
 }
@@ -108,9 +109,9 @@ static inline u32 update(u32 c, u32 x, u32 s)
     case 0: return x + s;
     case 1: return x - s;
     case 2: return x * s;
-    case 3: return x / s;
+    case 3: return s + 1 ? (u32)((int32_t)x / (int32_t)s) : 0 - x;
     case 4: return s < 32 ? x << s : 0;
-    default: return s < 32 ? x >> s : 0;
+    default: return (u32)((int32_t)x >> (s < 32 ? s : 31));
     }
 }
 
