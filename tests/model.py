@@ -856,13 +856,26 @@ def lowering_cases():
     still = row(SUM_TABLE, 2, CONST, 0)
     for what, words, inputs in (('the sum table, input 5: 10 after 58 firings', SUM_TABLE, [5]), ('the sum table, input 0: 0 after 13 firings', SUM_TABLE, [0]),
                                 ('row 2 changed to CONST 0: 6 firings, ZERO STEP, node 0', still, [5]), ('P12: the result is 5', P12, []),
-                                ('a flag carried in, input 4', flags, [4]), ('INPUT; OUT 0: no firing', empty, [9])):
+                                ('a flag carried in, input 4', flags, [4]), ('INPUT; OUT 0: no firing', empty, [9]),
+                                ('P6 in a loop that adds up: -2', index_sum(0, 0), [MOD - 2, 1, 2]), ('down past zero: 5 to -1', index_sum(1, 3), [5, 1, 0])):
         g = lowered(words)[0]
         yield f'{what}: loaded', call('load', sizes(g), g, inputs)
         yield what, call('run', 1000000, g, load(sizes(g), g, inputs)[1], [])
 
 
 ALL_KINDS = table([INPUT], [CONST, 7], [ROW_OP, 1, 0, 1], [ROW_PICK, 2, 0, 1], [FOR, 1, 2, 0, 5, 4], [ARG, 3], [NEXT, 10], [END], [OUT, X])
+
+
+def index_sum(update, condition):
+    """A loop from one input by the next to the third that adds up its index."""
+    return table([INPUT], [INPUT], [INPUT], [CONST, 0], [FOR, 0, 1, 2, update, condition], [ARG, 3], [ROW_OP, 0, 5, 4], [NEXT, 6], [END], [OUT, 7])
+
+
+# What it shows, start, step, bound, update, condition.
+BELOW_ZERO = (('P6: -2 -1 0 1, then 2', -2, 1, 2, 0, 0), ('5 4 3 2 1 0, then -1', 5, 1, 0, 1, 3), ('-7 -3 -1, then 0: toward zero', -7, 2, 0, 3, 0), ('7 -3 1, then 0', 7, -2, 0, 3, 4),
+              ('-8 -4 -2 -1 -1 and so on: rounded down', -8, 1, 0, 5, 4), ('-8, then -1: 40 places', -8, 40, -1, 5, 4), ('the least value by -1 stays', -2 ** 31, -1, 0, 3, 4),
+              ('1 2 4 and so on, then the least value', 1, 1, 0, 4, 2), ('the greatest value, then the least and so on', 2 ** 31 - 1, 1, 2 ** 31 - 1, 0, 1), ('0 is above -1: no turn', 0, 1, -1, 0, 0),
+              ('3 2 1 0 -1 -2, then -3', 3, -1, -3, 0, 2), ('-1 3 -9, then 27: products', -1, -3, 9, 2, 1))
 
 
 def sheet_cases():
@@ -969,8 +982,9 @@ def plain_cases():
             words = table([INPUT], [INPUT], [ROW_OP, code, 0, 1], [OUT, 2]) if code < 3 else table([INPUT], [INPUT], [ROW_OP, code, 0, 1], [ROW_PICK, 2, 0, 1], [OUT, 3])
             yield read(f'operator {code} on {x} and {y}', words, [x, y])
     for code, start, step, bound, going in ((0, 0, 3, 10, 0), (1, 9, 4, 1, 2), (2, 1, 3, 1000, 1), (3, 1000, 3, 0, 4), (4, 1, 4, 0, 4), (5, 4096, 5, 0, 2), (0, X - 3, 2, 0, 4), (3, 7, 2, 7, 3)):
-        words = table([INPUT], [INPUT], [INPUT], [CONST, 0], [FOR, 0, 1, 2, code, going], [ARG, 3], [ROW_OP, 0, 5, 4], [NEXT, 6], [END], [OUT, 7])
-        yield read(f'update {code} under condition {going}', words, [start, step, bound], 40)
+        yield read(f'update {code} under condition {going}', index_sum(code, going), [start, step, bound], 40)
+    for what, start, step, bound, code, going in BELOW_ZERO:
+        yield read(f'below zero: {what}', index_sum(code, going), [start % MOD, step % MOD, bound % MOD], 40)
     swap = table([INPUT], [INPUT], [INPUT], [CONST, 0], [CONST, 1], [FOR, 3, 4, 2, 0, 0], [ARG, 0], [ARG, 1], [NEXT, 7], [NEXT, 6], [END], [OUT, 8], [OUT, 9])
     for n in (0, 1, 2, 3): yield read(f'two ARGs that swap, {n} turns', swap, [11, 22, n])
     yield read('a NEXT of the other ARG, beside one of the index', row(swap, 9, NEXT, 5), [11, 22, 3])
