@@ -27,7 +27,7 @@ flag false = 0
 abbrev pub valueOf : ℕ → ℤ
 valueOf x = pick (ltb x 2147483648) (pos x) (negsuc (4294967295 - x))
 
--- The word of a number from -2^32 to 2^32 - 1: that number, or what it is less than 2^32.
+-- The word of a number from -2^32 to 2^32 - 1: itself, or below zero 2^32 more.
 abbrev pub wordOf : ℤ → ℕ
 wordOf (pos n) = n
 wordOf (negsuc n) = 4294967295 - n
