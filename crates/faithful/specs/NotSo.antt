@@ -2,8 +2,8 @@
 --
 -- It is not so that the node named is always the STREAM of the loop at whose FOR row the reading meets the zero step. The graph does not wait for
 -- the reading: a loop around it may have gone on to its next turn and met a zero step further up.
---     indexSteps, index-steps-is-checked, index-steps-at-row-3     the reading meets the zero step at row 3
---     the-loop-at-row-2-is-named                                   every order that rests names the STREAM of row 2; index-steps-rests: there is one
+--     indexSteps, index-steps-is-checked, index-steps-at-row-4     the reading meets the zero step at row 4
+--     the-loop-at-row-3-is-named                                   every order that rests names the STREAM of row 3; index-steps-rests: there is one
 --
 -- Nor that the node named is of no loop that the reading has left: inside a loop, one that was left may be met again.
 --     leftLoop, left-loop-is-checked, left-loop-at-row-5           the reading leaves the loop at row 3 and meets the zero step at row 5
@@ -63,12 +63,12 @@ all-name t k c r order u f h =
     ap (λ (x : List ℕ). outcome (loweredWords t) x .node) (a .same-words h) ∙ r .4
 
 -- ---- another loop is named
--- CONST 1, FOR 0 0 0 -= <=, FOR 0 1 0 -= <=, FOR 0 2 0 += <, END, END, END, OUT 0: three loops, one in the other; the indexes of the outer two are 1
--- and 0, and each is the step of the loop in it. In the outer loop's first turn the middle loop comes to its second, and the inner one has step 0. The
+-- CONST 1, CONST 0, FOR 0 0 1 -= >=, FOR 0 2 1 -= >=, FOR 0 3 0 += <, END, END, END, OUT 0: three loops, one in the other; the indexes of the outer two
+-- are 1 and 0, and each is the step of the loop in it. In the outer loop's first turn the middle loop comes to its second, and the inner one has step 0. The
 -- machines of the outer two have nothing to wait for: in the outer loop's second turn the middle one has step 0.
 
 abbrev pub indexSteps : List ℕ
-indexSteps = const 1 (loop 0 0 0 1 1 (loop 0 1 0 1 1 (loop 0 2 0 0 0 (close (close (close (out 0)))))))
+indexSteps = const 1 (const 0 (loop 0 0 1 1 3 (loop 0 2 1 1 3 (loop 0 3 0 0 0 (close (close (close (out 0))))))))
 
 index-steps-passes : tableRefusal indexSteps ≡ answer 0 0
 unfolding check-computes
@@ -82,66 +82,71 @@ pub index-steps-is-checked : checkAnswer indexSteps .number ≡ 0
 unfolding checkAnswer refusedBy
 index-steps-is-checked = checked (size indexSteps) (tableRefusal indexSteps) (inLimits indexSteps) index-steps-passes index-steps-has-room
 
-pub index-steps-at-row-3 : Reads indexSteps [] (zeroStep 3 (opening 1 1 ∷ opening 2 2 ∷ opening 3 0 ∷ []))
+pub index-steps-at-row-4 : Reads indexSteps [] (zeroStep 4 (opening 2 1 ∷ opening 3 2 ∷ opening 4 0 ∷ []))
 unfolding reading-computes
-index-steps-at-row-3 = record { steps = 20; comes = refl }
+index-steps-at-row-4 = record { steps = 20; comes = refl }
 
 unfoldable indexGraph : List ℕ
 indexGraph =
-    31 ∷ 48 ∷ 1 ∷ 1 ∷
+    35 ∷ 54 ∷ 2 ∷ 1 ∷
     1 ∷ 1 ∷
+    1 ∷ 0 ∷
     33 ∷
-    0 ∷ 6 ∷ 0 ∷ 22 ∷ 24 ∷ 26 ∷ 1 ∷
-    1 ∷ 0 ∷ 0 ∷ 1 ∷ 2 ∷ absent ∷ 3 ∷
-    7 ∷ 4 ∷ 0 ∷ 28 ∷ 30 ∷ absent ∷ 5 ∷
-    4 ∷ 0 ∷ 0 ∷ 5 ∷ 32 ∷ absent ∷ 6 ∷
-    3 ∷ 0 ∷ 0 ∷ 4 ∷ 6 ∷ absent ∷ 8 ∷
-    0 ∷ 6 ∷ 0 ∷ 34 ∷ 3 ∷ 36 ∷ 9 ∷
-    1 ∷ 0 ∷ 0 ∷ 9 ∷ 10 ∷ absent ∷ 11 ∷
-    7 ∷ 4 ∷ 0 ∷ 38 ∷ 40 ∷ absent ∷ 13 ∷
-    4 ∷ 0 ∷ 0 ∷ 13 ∷ 41 ∷ absent ∷ 14 ∷
-    3 ∷ 0 ∷ 0 ∷ 12 ∷ 14 ∷ absent ∷ 16 ∷
-    0 ∷ 0 ∷ 0 ∷ 42 ∷ 11 ∷ 44 ∷ 17 ∷
-    1 ∷ 0 ∷ 0 ∷ 17 ∷ 18 ∷ absent ∷ 19 ∷
-    7 ∷ 3 ∷ 0 ∷ 46 ∷ 47 ∷ absent ∷ 21 ∷
-    5 ∷ 0 ∷ 0 ∷ 0 ∷ absent ∷ absent ∷ 22 ∷
-    5 ∷ 0 ∷ 0 ∷ 23 ∷ absent ∷ absent ∷ 24 ∷
-    5 ∷ 0 ∷ 0 ∷ 25 ∷ absent ∷ absent ∷ 26 ∷
+    0 ∷ 8 ∷ 0 ∷ 26 ∷ 28 ∷ 34 ∷ 2 ∷
+    1 ∷ 0 ∷ 0 ∷ 2 ∷ 3 ∷ absent ∷ 4 ∷
+    7 ∷ 6 ∷ 0 ∷ 30 ∷ 36 ∷ absent ∷ 6 ∷
+    4 ∷ 0 ∷ 0 ∷ 40 ∷ 32 ∷ absent ∷ 7 ∷
+    3 ∷ 0 ∷ 0 ∷ 38 ∷ 7 ∷ absent ∷ 9 ∷
+    4 ∷ 0 ∷ 0 ∷ 41 ∷ 37 ∷ absent ∷ 10 ∷
+    3 ∷ 0 ∷ 0 ∷ 39 ∷ 10 ∷ absent ∷ 12 ∷
+    0 ∷ 8 ∷ 0 ∷ 42 ∷ 4 ∷ 46 ∷ 13 ∷
+    1 ∷ 0 ∷ 0 ∷ 13 ∷ 14 ∷ absent ∷ 15 ∷
+    7 ∷ 6 ∷ 0 ∷ 44 ∷ 47 ∷ absent ∷ 17 ∷
+    4 ∷ 0 ∷ 0 ∷ 17 ∷ 45 ∷ absent ∷ 18 ∷
+    3 ∷ 0 ∷ 0 ∷ 16 ∷ 18 ∷ absent ∷ 20 ∷
+    0 ∷ 0 ∷ 0 ∷ 48 ∷ 15 ∷ 50 ∷ 21 ∷
+    1 ∷ 0 ∷ 0 ∷ 21 ∷ 22 ∷ absent ∷ 23 ∷
+    7 ∷ 3 ∷ 0 ∷ 52 ∷ 53 ∷ absent ∷ 25 ∷
+    5 ∷ 0 ∷ 0 ∷ 0 ∷ absent ∷ absent ∷ 26 ∷
     5 ∷ 0 ∷ 0 ∷ 27 ∷ absent ∷ absent ∷ 28 ∷
     5 ∷ 0 ∷ 0 ∷ 29 ∷ absent ∷ absent ∷ 30 ∷
     5 ∷ 0 ∷ 0 ∷ 31 ∷ absent ∷ absent ∷ 32 ∷
-    6 ∷ 0 ∷ 0 ∷ 7 ∷ absent ∷ absent ∷ absent ∷
-    5 ∷ 0 ∷ 0 ∷ 8 ∷ absent ∷ absent ∷ 34 ∷
+    5 ∷ 0 ∷ 0 ∷ 1 ∷ absent ∷ absent ∷ 34 ∷
     5 ∷ 0 ∷ 0 ∷ 35 ∷ absent ∷ absent ∷ 36 ∷
-    5 ∷ 0 ∷ 0 ∷ 37 ∷ absent ∷ absent ∷ 38 ∷
-    5 ∷ 0 ∷ 0 ∷ 39 ∷ absent ∷ absent ∷ 40 ∷
-    6 ∷ 0 ∷ 0 ∷ 15 ∷ absent ∷ absent ∷ absent ∷
-    5 ∷ 0 ∷ 0 ∷ 16 ∷ absent ∷ absent ∷ 42 ∷
+    5 ∷ 0 ∷ 1 ∷ 5 ∷ absent ∷ absent ∷ 38 ∷
+    5 ∷ 0 ∷ 1 ∷ 6 ∷ absent ∷ absent ∷ 40 ∷
+    6 ∷ 0 ∷ 0 ∷ 8 ∷ absent ∷ absent ∷ absent ∷
+    5 ∷ 0 ∷ 0 ∷ 9 ∷ absent ∷ absent ∷ 42 ∷
     5 ∷ 0 ∷ 0 ∷ 43 ∷ absent ∷ absent ∷ 44 ∷
-    5 ∷ 0 ∷ 0 ∷ 45 ∷ absent ∷ absent ∷ 46 ∷
+    6 ∷ 0 ∷ 0 ∷ 11 ∷ absent ∷ absent ∷ absent ∷
+    5 ∷ 0 ∷ 0 ∷ 12 ∷ absent ∷ absent ∷ 46 ∷
     6 ∷ 0 ∷ 0 ∷ 19 ∷ absent ∷ absent ∷ absent ∷
-    6 ∷ 0 ∷ 1 ∷ 20 ∷ absent ∷ absent ∷ absent ∷
-    6 ∷ 0 ∷ 1 ∷ 21 ∷ absent ∷ absent ∷ absent ∷ []
+    5 ∷ 0 ∷ 0 ∷ 20 ∷ absent ∷ absent ∷ 48 ∷
+    5 ∷ 0 ∷ 0 ∷ 49 ∷ absent ∷ absent ∷ 50 ∷
+    5 ∷ 0 ∷ 0 ∷ 51 ∷ absent ∷ absent ∷ 52 ∷
+    6 ∷ 0 ∷ 0 ∷ 23 ∷ absent ∷ absent ∷ absent ∷
+    6 ∷ 0 ∷ 1 ∷ 24 ∷ absent ∷ absent ∷ absent ∷
+    6 ∷ 0 ∷ 1 ∷ 25 ∷ absent ∷ absent ∷ absent ∷ []
 
 index-steps-lowers : loweredWords indexSteps ≡ indexGraph
 unfolding lowering-computes indexGraph
 index-steps-lowers = refl
 
-index-steps-ends : outcome indexGraph (runOf indexGraph [] (loaded indexGraph []) 54 .state) ≡ record { answer = ZERO-STEP; node = 5 }
+index-steps-ends : outcome indexGraph (runOf indexGraph [] (loaded indexGraph []) 59 .state) ≡ record { answer = ZERO-STEP; node = 7 }
 unfolding indexGraph run-computes
 index-steps-ends = refl
 
 -- the STREAMs of the two loops
-pub the-two-streams : (streamNode indexSteps 2 ≡ 5) × (streamNode indexSteps 3 ≡ 10)
+pub the-two-streams : (streamNode indexSteps 3 ≡ 7) × (streamNode indexSteps 4 ≡ 12)
 unfolding lowering-computes
 the-two-streams = (refl, refl)
 
-pub index-steps-rests : (order : List ℕ) × (u : List ℕ) × Fires (loweredWords indexSteps) order (loadedTable indexSteps []) u × AtRest (loweredWords indexSteps) u × (outcome (loweredWords indexSteps) u .node ≡ 5)
-index-steps-rests = rests-naming indexSteps indexGraph 54 5 index-steps-lowers index-steps-ends
+pub index-steps-rests : (order : List ℕ) × (u : List ℕ) × Fires (loweredWords indexSteps) order (loadedTable indexSteps []) u × AtRest (loweredWords indexSteps) u × (outcome (loweredWords indexSteps) u .node ≡ 7)
+index-steps-rests = rests-naming indexSteps indexGraph 59 7 index-steps-lowers index-steps-ends
 
-pub the-loop-at-row-2-is-named : (order u : List ℕ) → Fires (loweredWords indexSteps) order (loadedTable indexSteps []) u → AtRest (loweredWords indexSteps) u
-    → outcome (loweredWords indexSteps) u .node ≡ streamNode indexSteps 2
-the-loop-at-row-2-is-named order u f h = all-name indexSteps 5 index-steps-is-checked index-steps-rests order u f h ∙ sym (the-two-streams .0)
+pub the-loop-at-row-3-is-named : (order u : List ℕ) → Fires (loweredWords indexSteps) order (loadedTable indexSteps []) u → AtRest (loweredWords indexSteps) u
+    → outcome (loweredWords indexSteps) u .node ≡ streamNode indexSteps 3
+the-loop-at-row-3-is-named order u f h = all-name indexSteps 7 index-steps-is-checked index-steps-rests order u f h ∙ sym (the-two-streams .0)
 
 -- ---- a loop that the reading has left is named
 -- CONST 1, CONST 0, FOR 0 0 0 -= <=, FOR 1 2 0 += <, END, FOR 1 1 0 += <, END, END, OUT 0: two loops side by side in a third. In the outer loop's first turn
