@@ -59,8 +59,13 @@ pub const UNRUN: u32 = 12;
 // The allowance of firings and that of turns where none is asked: more than any rehearsal of a station takes, and over in minutes.
 pub const USUAL: u64 = 1000000000;
 
+const MOST_WORD: u64 = 4294967295;
+
+// The most that an input is below 0.
+const MOST_BELOW: u64 = 2147483648;
+
 // `table` and `order` are numbers of arguments, 0 where none names the file; `run` says that a run was asked for by an input or an option,
-// `steered` that an option was given which a run alone takes, and `turned` that --turns was.
+// `steered` that an option was given which a run alone takes, and `turned` that --turns was. `signed` says that words are to be told with a sign.
 // `problem` is the first that is wrong, and `at` its argument.
 pub struct Asked {
     pub table: usize,
@@ -74,6 +79,7 @@ pub struct Asked {
     pub run: bool,
     pub steered: bool,
     pub turned: bool,
+    pub signed: bool,
     pub waits: u32,
     pub problem: u32,
     pub at: usize,
@@ -94,6 +100,7 @@ fn nothing() -> Asked
         run: false,
         steered: false,
         turned: false,
+        signed: false,
         waits: NO_MORE,
         problem: 0,
         at: 0,
@@ -192,6 +199,15 @@ fn doubled(given: Asked) -> Asked
     asked
 }
 
+// Words are told with a sign. That asks for no run.
+fn signed(given: Asked) -> Asked
+    ensures { λ r. ⌜ r .inputs ≤ given .inputs ⌝ }
+{
+    let mut asked = given;
+    asked.signed = true;
+    asked
+}
+
 fn option(given: Asked, k: usize, arg: &[u8]) -> Asked
     ensures { λ r. ⌜ r .inputs ≤ given .inputs ⌝ }
 {
@@ -203,6 +219,9 @@ fn option(given: Asked, k: usize, arg: &[u8]) -> Asked
     }
     if text::same(arg, b"--both") {
         return doubled(given);
+    }
+    if text::same(arg, b"--signed") {
+        return signed(given);
     }
     if text::same(arg, b"--order") {
         return waiting(steering(given), k, A_FILE);
@@ -224,6 +243,37 @@ fn named(given: Asked, k: usize) -> Asked
     asked
 }
 
+// The number of a text, where it is one and at most `most`; else past every word.
+fn number_to(text: &[u8], most: u64) -> u64 {
+    let n = text::number(text);
+    if n.problem != 0 {
+        return MOST_WORD + 1;
+    }
+    if most < n.value {
+        return MOST_WORD + 1;
+    }
+    n.value
+}
+
+// What follows a sign: the word below 0, or past every word.
+fn word_below(text: &[u8]) -> u64 {
+    let size = number_to(text, MOST_BELOW);
+    if MOST_BELOW < size {
+        return size;
+    }
+    word::negate(size as u32) as u64
+}
+
+// The word that an input is, or past every word where it is none.
+fn word_of(arg: &[u8]) -> u64 {
+    if 0 < arg.len() {
+        if arg[0] == b'-' {
+            return word_below(&arg[1..]);
+        }
+    }
+    number_to(arg, MOST_WORD)
+}
+
 // An input word is kept.
 fn input(given: Asked, k: usize, arg: &[u8], inputs: &mut [u32]) -> Asked
     requires { ⌜ given .inputs ≤ length (now inputs) ⌝ }
@@ -233,22 +283,18 @@ fn input(given: Asked, k: usize, arg: &[u8], inputs: &mut [u32]) -> Asked
     if inputs.len() <= n {
         return wrong(given, INPUTS, k);
     }
-    let word = text::number(arg);
-    if word.problem != 0 {
+    let word = word_of(arg);
+    if MOST_WORD < word {
         return wrong(given, WORD, k);
     }
-    let value = word.value;
-    if 4294967295 < value {
-        return wrong(given, WORD, k);
-    }
-    inputs[n] = value as u32;
+    inputs[n] = word as u32;
     let mut asked = given;
     asked.run = true;
     asked.inputs = n + 1;
     asked
 }
 
-// A number with a sign is no option: it is told as the input that it was meant to be.
+// A number with a sign is no option, but an input.
 fn is_option(arg: &[u8]) -> bool {
     if arg.len() < 2 {
         return false;
@@ -332,6 +378,6 @@ pub fn put_problem(out: &mut [u8], at: usize, problem: u32) -> usize
     ensures { λ r. ⌜ r ≤ length (now (out .entry)) ⌝ }
 {
     let problems =
-        b"nothing is wrong;no table is named;there is no such option;an input is a decimal word, 0 to 4,294,967,295;no table has so many inputs;something is to follow this option;an allowance is a number, 0 to 18,446,744,073,709,551,615;--order and --reverse do not go together;this command takes a table and nothing else;a drawing has no trace;--turns and --both go with run and read, not with a drawing;--turns goes with read, and with run where --both is given;a reading has no firings: it takes input words and --turns";
+        b"nothing is wrong;no table is named;there is no such option;an input is a decimal number, -2,147,483,648 to 4,294,967,295;no table has so many inputs;something is to follow this option;an allowance is a number, 0 to 18,446,744,073,709,551,615;--order and --reverse do not go together;this command takes a table and nothing else;a drawing has no trace;--turns and --both go with run and read, not with a drawing;--turns goes with read, and with run where --both is given;a reading has no firings: it takes input words, --turns and --signed";
     text::put(out, at, text::part(problems, problem as usize))
 }

@@ -48,7 +48,7 @@ fn usage(to: i32) -> bool {
         to,
         b"rehearse check TABLE                      whether a loop table is right; if not, what to mend: the rule, the row, the clause
 rehearse run TABLE INPUT.. [OPTION..]     runs a table on its input words
-rehearse read TABLE INPUT.. [--turns N]   reads a table on its input words, row by row, without its graph
+rehearse read TABLE INPUT.. [OPTION..]    reads a table on its input words, row by row, without its graph
 rehearse lower TABLE                      the words of a table's graph, with what they say as comments
 rehearse draw TABLE [INPUT.. OPTION..]    a table's graph as Graphviz text; with inputs, the tokens after a run
 rehearse sheet TABLE                      a table as a sheet that people can read
@@ -58,7 +58,9 @@ rehearse --help                           this
 Options of run, and of draw but for --trace: --order FILE, node numbers to go through once before the sweeps; --reverse, all nodes from the last to 0 so;
 --allowance N, the most firings, 1,000,000,000 where it is not given; --trace, a line for each firing. Of run alone: --both, the table is read too, and the two are compared.
 Of read, and of run with --both: --turns N, the most turns of loops, 1,000,000,000 where it is not given.
+Of run, read and draw: --signed, words are told with their sign, 4,294,967,295 as -1.
 A table is a file of decimal words, six to a row; # starts a comment. A sheet, which starts with rows=, does for a table everywhere.
+An input, and in a table word a of a CONST, may be below 0, down to -2,147,483,648.
 ",
     )
 }
@@ -231,8 +233,9 @@ fn draw(
     wires: &[u32],
     out: &mut [u8],
 ) -> u32 {
+    let asked = job.asked;
     files::written(
-        listed::write_drawing(job.out, graph, state, nodes, wires, out),
+        listed::write_drawing(job.out, graph, state, nodes, wires, out, asked.signed),
         job.err,
     )
 }
@@ -277,6 +280,7 @@ fn put_rehearsed(
     let asked = job.asked;
     let how = How {
         trace: asked.trace,
+        signed: asked.signed,
         to: job.out,
         err: job.err,
     };
@@ -319,7 +323,7 @@ fn hold(
     let mut results = [0u32; 512];
     let asked = job.asked;
     let plain = engine::read_plain(table, inputs, &mut results, asked.turns);
-    let held = readings::put_held(out, answer, graph, state, plain, &results);
+    let held = readings::put_held(out, answer, graph, state, plain, &results, asked.signed);
     let n = held.count;
     if held.differs {
         io::write_all(job.err, &out[..n]);
@@ -492,7 +496,7 @@ fn read(
     if number != 0 {
         return refuse(job.err, path, &text[..letters], table, number);
     }
-    let read = readings::put_read(text, table, inputs.len(), plain, &results);
+    let read = readings::put_read(text, table, inputs.len(), plain, &results, asked.signed);
     let n = read.count;
     tell(job, read.refused, &text[..n])
 }
@@ -586,6 +590,9 @@ fn alone(asked: Asked) -> Asked
         return more;
     }
     if asked.run {
+        return arguments::wrong(asked, arguments::ALONE, 0);
+    }
+    if asked.signed {
         return arguments::wrong(asked, arguments::ALONE, 0);
     }
     asked

@@ -1,6 +1,7 @@
 // A graph for the eye: its words line by line, and as Graphviz dot text.
 // Machines by shape, flags dashed, starts and results marked; where a kind has several inputs or outputs that differ, each is marked at its end of
 // the wire. A token that stands on a wire is written behind the wire's number. A node that has a name shows it in a second line.
+// Tokens and constants are words of the run: `signed` writes them with a sign.
 // Nothing is asked of the words: what is not there reads as 0, and so does a count past 8,192.
 ghost use mathlib.Core.Path.{_≡_};
 ghost use Prim.Native.Nat.{_≤_, _<_, _+_, _*_};
@@ -321,7 +322,7 @@ fn put_tip(out: &mut [u8], at: usize, wires: &[u32], wire: u32) -> usize
 }
 
 // The token on a wire, if one stands there.
-fn put_token(out: &mut [u8], at: usize, state: &[u32], wire: u32) -> usize
+fn put_token(out: &mut [u8], at: usize, state: &[u32], wire: u32, signed: bool) -> usize
     requires { ⌜ at ≤ length (now out) ⌝ }
     ensures { λ r. ⌜ r ≤ length (now (out .entry)) ⌝ }
 {
@@ -330,7 +331,7 @@ fn put_token(out: &mut [u8], at: usize, state: &[u32], wire: u32) -> usize
         return at;
     }
     let n = text::put(out, at, b": ");
-    text::put_number(out, n, word_at(state, place + 1) as u64)
+    text::put_word(out, n, word_at(state, place + 1), signed)
 }
 
 // From where a wire comes to the reader that `letter` and `number` name.
@@ -351,13 +352,13 @@ fn put_arrow(
 }
 
 // A wire's label: its number, and the token on it.
-fn put_label(out: &mut [u8], at: usize, state: &[u32], wire: u32) -> usize
+fn put_label(out: &mut [u8], at: usize, state: &[u32], wire: u32, signed: bool) -> usize
     requires { ⌜ at ≤ length (now out) ⌝ }
     ensures { λ r. ⌜ r ≤ length (now (out .entry)) ⌝ }
 {
     let a = text::put(out, at, b" [label=\"");
     let b = text::put_number(out, a, wire as u64);
-    let c = put_token(out, b, state, wire);
+    let c = put_token(out, b, state, wire, signed);
     text::put(out, c, b"\" style=")
 }
 
@@ -371,12 +372,13 @@ fn put_edge(
     wire: u32,
     letter: u8,
     number: usize,
+    signed: bool,
 ) -> usize
     requires { ⌜ at ≤ length (now out) ⌝ }
     ensures { λ r. ⌜ r ≤ length (now (out .entry)) ⌝ }
 {
     let a = put_arrow(out, at, graph, wire, letter, number);
-    let b = put_label(out, a, state, wire);
+    let b = put_label(out, a, state, wire, signed);
     let c = put_style(out, b, graph, wire);
     let d = put_tail(out, c, graph, wire);
     put_tip(out, d, wires, wire)
@@ -390,6 +392,7 @@ fn put_inputs(
     state: &[u32],
     wires: &[u32],
     i: usize,
+    signed: bool,
 ) -> usize
     requires { ⌜ (at ≤ length (now out)) × (i ≤ 8192) ⌝ }
     ensures { λ r. ⌜ r ≤ length (now (out .entry)) ⌝ }
@@ -397,7 +400,7 @@ fn put_inputs(
     let mut n = at;
     let mut k: usize = 0;
     while k < 3 {
-        n = put_input(out, n, graph, state, wires, i, k);
+        n = put_input(out, n, graph, state, wires, i, k, signed);
         k += 1;
     }
     n
@@ -411,6 +414,7 @@ fn put_input(
     wires: &[u32],
     i: usize,
     k: usize,
+    signed: bool,
 ) -> usize
     requires { ⌜ (at ≤ length (now out)) × (i ≤ 8192) × (k < 3) ⌝ }
     ensures { λ r. ⌜ r ≤ length (now (out .entry)) ⌝ }
@@ -426,6 +430,7 @@ fn put_input(
             row_word(graph, i, 3 + k),
             b'n',
             i,
+            signed,
         );
         let b = put_head(out, a, kind, k);
         return text::put(out, b, b"];\n");
@@ -442,12 +447,13 @@ pub fn put_part(
     nodes: &[u32],
     wires: &[u32],
     i: usize,
+    signed: bool,
 ) -> usize
     requires { ⌜ (at ≤ length (now out)) × (i ≤ 8192) ⌝ }
     ensures { λ r. ⌜ r ≤ length (now (out .entry)) ⌝ }
 {
     let n = put_node(out, at, graph, nodes, i);
-    put_inputs(out, n, graph, state, wires, i)
+    put_inputs(out, n, graph, state, wires, i, signed)
 }
 
 fn put_nodes(
@@ -457,6 +463,7 @@ fn put_nodes(
     state: &[u32],
     nodes: &[u32],
     wires: &[u32],
+    signed: bool,
 ) -> usize
     requires { ⌜ at ≤ length (now out) ⌝ }
     ensures { λ r. ⌜ r ≤ length (now (out .entry)) ⌝ }
@@ -465,13 +472,13 @@ fn put_nodes(
     let mut n = at;
     let mut i: usize = 0;
     while i < count {
-        n = put_part(out, n, graph, state, nodes, wires, i);
+        n = put_part(out, n, graph, state, nodes, wires, i, signed);
         i += 1;
     }
     n
 }
 
-fn put_start(out: &mut [u8], at: usize, graph: &[u32], k: usize) -> usize
+fn put_start(out: &mut [u8], at: usize, graph: &[u32], k: usize, signed: bool) -> usize
     requires { ⌜ (at ≤ length (now out)) × (k ≤ 8192) ⌝ }
     ensures { λ r. ⌜ r ≤ length (now (out .entry)) ⌝ }
 {
@@ -482,11 +489,11 @@ fn put_start(out: &mut [u8], at: usize, graph: &[u32], k: usize) -> usize
         b,
         text::part(b"input ;constant ", word_at(graph, 4 + 2 * k) as usize),
     );
-    let d = text::put_number(out, c, word_at(graph, 5 + 2 * k) as u64);
+    let d = text::put_word(out, c, word_at(graph, 5 + 2 * k), signed);
     text::put(out, d, b"\"];\n")
 }
 
-fn put_starts(out: &mut [u8], at: usize, graph: &[u32]) -> usize
+fn put_starts(out: &mut [u8], at: usize, graph: &[u32], signed: bool) -> usize
     requires { ⌜ at ≤ length (now out) ⌝ }
     ensures { λ r. ⌜ r ≤ length (now (out .entry)) ⌝ }
 {
@@ -494,7 +501,7 @@ fn put_starts(out: &mut [u8], at: usize, graph: &[u32]) -> usize
     let mut n = at;
     let mut k: usize = 0;
     while k < starts {
-        n = put_start(out, n, graph, k);
+        n = put_start(out, n, graph, k, signed);
         k += 1;
     }
     n
@@ -507,6 +514,7 @@ fn put_result(
     state: &[u32],
     wires: &[u32],
     k: usize,
+    signed: bool,
 ) -> usize
     requires { ⌜ (at ≤ length (now out)) × (k ≤ 8192) ⌝ }
     ensures { λ r. ⌜ r ≤ length (now (out .entry)) ⌝ }
@@ -516,11 +524,18 @@ fn put_result(
     let c = text::put_number(out, b, k as u64);
     let d = text::put(out, c, b"\"];\n");
     let wire = word_at(graph, results_place(graph) + k);
-    let e = put_edge(out, d, graph, state, wires, wire, b'r', k);
+    let e = put_edge(out, d, graph, state, wires, wire, b'r', k, signed);
     text::put(out, e, b"];\n")
 }
 
-fn put_results(out: &mut [u8], at: usize, graph: &[u32], state: &[u32], wires: &[u32]) -> usize
+fn put_results(
+    out: &mut [u8],
+    at: usize,
+    graph: &[u32],
+    state: &[u32],
+    wires: &[u32],
+    signed: bool,
+) -> usize
     requires { ⌜ at ≤ length (now out) ⌝ }
     ensures { λ r. ⌜ r ≤ length (now (out .entry)) ⌝ }
 {
@@ -528,14 +543,14 @@ fn put_results(out: &mut [u8], at: usize, graph: &[u32], state: &[u32], wires: &
     let mut n = at;
     let mut k: usize = 0;
     while k < results {
-        n = put_result(out, n, graph, state, wires, k);
+        n = put_result(out, n, graph, state, wires, k, signed);
         k += 1;
     }
     n
 }
 
 // What stands above the nodes.
-pub fn put_top(out: &mut [u8], at: usize, graph: &[u32]) -> usize
+pub fn put_top(out: &mut [u8], at: usize, graph: &[u32], signed: bool) -> usize
     requires { ⌜ at ≤ length (now out) ⌝ }
     ensures { λ r. ⌜ r ≤ length (now (out .entry)) ⌝ }
 {
@@ -543,15 +558,22 @@ pub fn put_top(out: &mut [u8], at: usize, graph: &[u32]) -> usize
         b"label=\"solid: words, dashed: flags; a wire has its number, then the token on it; T and F: the true and the false leg\";\n";
     let a = text::put(out, at, b"digraph graph_of_tokens {\n");
     let b = text::put(out, a, legend);
-    put_starts(out, b, graph)
+    put_starts(out, b, graph, signed)
 }
 
 // What stands below them.
-pub fn put_bottom(out: &mut [u8], at: usize, graph: &[u32], state: &[u32], wires: &[u32]) -> usize
+pub fn put_bottom(
+    out: &mut [u8],
+    at: usize,
+    graph: &[u32],
+    state: &[u32],
+    wires: &[u32],
+    signed: bool,
+) -> usize
     requires { ⌜ at ≤ length (now out) ⌝ }
     ensures { λ r. ⌜ r ≤ length (now (out .entry)) ⌝ }
 {
-    let n = put_results(out, at, graph, state, wires);
+    let n = put_results(out, at, graph, state, wires, signed);
     text::put(out, n, b"}\n")
 }
 
@@ -564,11 +586,12 @@ pub fn put_drawing(
     state: &[u32],
     nodes: &[u32],
     wires: &[u32],
+    signed: bool,
 ) -> usize
     requires { ⌜ at ≤ length (now out) ⌝ }
     ensures { λ r. ⌜ r ≤ length (now (out .entry)) ⌝ }
 {
-    let a = put_top(out, at, graph);
-    let b = put_nodes(out, a, graph, state, nodes, wires);
-    put_bottom(out, b, graph, state, wires)
+    let a = put_top(out, at, graph, signed);
+    let b = put_nodes(out, a, graph, state, nodes, wires, signed);
+    put_bottom(out, b, graph, state, wires, signed)
 }

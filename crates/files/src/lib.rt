@@ -175,7 +175,7 @@ fn read_text(err: i32, path: &[u8], rows: bool, text: &[u8], words: &mut [u32]) 
             return read_sheet(err, path, text, words);
         }
     }
-    let typed = typed::read(text, words);
+    let typed = typed::read(text, words, rows);
     if typed.problem != 0 {
         misread(err, path, text, typed, rows);
         return nothing_got(ERROR);
@@ -222,7 +222,7 @@ fn read_opened(
     read_text(err, path, rows, &text[..n], words)
 }
 
-// Reads a file's words. `rows` says that it is a table's: it may be a sheet, and the place of what is wrong is told by row and word too.
+// Reads a file's words. `rows` says that it is a table's: it may be a sheet, a constant may be below 0, and the place of what is wrong is told by row and word too.
 pub fn read_file(err: i32, path: &[u8], rows: bool, text: &mut [u8], words: &mut [u32]) -> Got
     ensures { λ r. ⌜ (r .count ≤ length (now (words .entry))) × (r .letters ≤ length (now (text .entry))) ⌝ }
 {

@@ -14,6 +14,7 @@ fn rehearse(
 ) {
     let how = How {
         trace,
+        signed: false,
         to: STDOUT_FILENO,
         err: STDOUT_FILENO,
     };

@@ -168,16 +168,17 @@ fn put_head(out: &mut [u8], at: usize, graph: &[u32], wires: &[u32]) -> usize
 
 // Writing. The list or the drawing of a large graph has more letters than the commands have memory, so it is written part by part, by the lent letters.
 
-// What is written of a graph: its words, or a drawing.
+// What is written of a graph: its words, or a drawing, with or without signs.
 struct Kind {
     drawing: bool,
+    signed: bool,
 }
 
 fn put_above(out: &mut [u8], kind: Kind, graph: &[u32], wires: &[u32]) -> usize
     ensures { λ r. ⌜ r ≤ length (now (out .entry)) ⌝ }
 {
     if kind.drawing {
-        return drawn::put_top(out, 0, graph);
+        return drawn::put_top(out, 0, graph, kind.signed);
     }
     put_head(out, 0, graph, wires)
 }
@@ -186,7 +187,7 @@ fn put_below(out: &mut [u8], kind: Kind, graph: &[u32], state: &[u32], wires: &[
     ensures { λ r. ⌜ r ≤ length (now (out .entry)) ⌝ }
 {
     if kind.drawing {
-        return drawn::put_bottom(out, 0, graph, state, wires);
+        return drawn::put_bottom(out, 0, graph, state, wires, kind.signed);
     }
     0
 }
@@ -204,7 +205,7 @@ fn put_part(
     ensures { λ r. ⌜ r ≤ length (now (out .entry)) ⌝ }
 {
     if kind.drawing {
-        return drawn::put_part(out, 0, graph, state, nodes, wires, i);
+        return drawn::put_part(out, 0, graph, state, nodes, wires, i, kind.signed);
     }
     put_node(out, 0, graph, nodes, wires, i)
 }
@@ -283,10 +284,14 @@ fn write_graph(
 
 // Writes a graph's words with what they say; whether that could be done. `nodes` and `wires` are the names of `roles`.
 pub fn write_list(to: i32, graph: &[u32], nodes: &[u32], wires: &[u32], out: &mut [u8]) -> bool {
-    write_graph(to, Kind { drawing: false }, graph, &[], nodes, wires, out)
+    let kind = Kind {
+        drawing: false,
+        signed: false,
+    };
+    write_graph(to, kind, graph, &[], nodes, wires, out)
 }
 
-// Writes a graph's drawing, with the tokens of a state.
+// Writes a graph's drawing, with the tokens of a state; `signed` with the signs of tokens and constants.
 pub fn write_drawing(
     to: i32,
     graph: &[u32],
@@ -294,6 +299,11 @@ pub fn write_drawing(
     nodes: &[u32],
     wires: &[u32],
     out: &mut [u8],
+    signed: bool,
 ) -> bool {
-    write_graph(to, Kind { drawing: true }, graph, state, nodes, wires, out)
+    let kind = Kind {
+        drawing: true,
+        signed,
+    };
+    write_graph(to, kind, graph, state, nodes, wires, out)
 }

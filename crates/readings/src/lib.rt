@@ -150,31 +150,45 @@ fn put_refused(out: &mut [u8], number: u32, table: &[u32], given: usize) -> Told
     }
 }
 
-// A reading.
+// A reading. `signed` tells its words with a sign.
 
-fn put_word(out: &mut [u8], at: usize, ended: bool, word: u32) -> usize
+fn put_word(out: &mut [u8], at: usize, ended: bool, word: u32, signed: bool) -> usize
     requires { ⌜ at ≤ length (now out) ⌝ }
     ensures { λ r. ⌜ r ≤ length (now (out .entry)) ⌝ }
 {
     if ended {
-        return text::put_next(out, at, word as u64);
+        return text::put_word(out, at, word, signed);
     }
-    text::put(out, at, b" none")
+    text::put(out, at, b"none")
 }
 
-fn put_result(out: &mut [u8], at: usize, k: usize, ended: bool, word: u32) -> usize
+fn put_result(
+    out: &mut [u8],
+    at: usize,
+    k: usize,
+    ended: bool,
+    word: u32,
+    signed: bool,
+) -> usize
     requires { ⌜ at ≤ length (now out) ⌝ }
     ensures { λ r. ⌜ r ≤ length (now (out .entry)) ⌝ }
 {
     let a = text::put(out, at, b"result");
     let b = text::put_next(out, a, k as u64);
-    let c = text::put_letter(out, b, b':');
-    let d = put_word(out, c, ended, word);
+    let c = text::put(out, b, b": ");
+    let d = put_word(out, c, ended, word, signed);
     text::put_letter(out, d, b'\n')
 }
 
 // A line for each OUT; without results each has none.
-fn put_results(out: &mut [u8], at: usize, table: &[u32], ended: bool, results: &[u32]) -> usize
+fn put_results(
+    out: &mut [u8],
+    at: usize,
+    table: &[u32],
+    ended: bool,
+    results: &[u32],
+    signed: bool,
+) -> usize
     requires { ⌜ at ≤ length (now out) ⌝ }
     ensures { λ r. ⌜ r ≤ length (now (out .entry)) ⌝ }
 {
@@ -182,7 +196,7 @@ fn put_results(out: &mut [u8], at: usize, table: &[u32], ended: bool, results: &
     let mut n = at;
     let mut k: usize = 0;
     while k < last {
-        n = put_result(out, n, k, ended, drawn::word_at(results, k));
+        n = put_result(out, n, k, ended, drawn::word_at(results, k), signed);
         k += 1;
     }
     n
@@ -223,26 +237,39 @@ fn has_ended(plain: Plain) -> bool {
     }
 }
 
-fn put_answered(out: &mut [u8], table: &[u32], plain: Plain, results: &[u32]) -> Told
+fn put_answered(
+    out: &mut [u8],
+    table: &[u32],
+    plain: Plain,
+    results: &[u32],
+    signed: bool,
+) -> Told
     ensures { λ r. ⌜ r .count ≤ length (now (out .entry)) ⌝ }
 {
     let a = put_plain(out, 0, plain);
     let b = put_why(out, a, table, plain);
     Told {
-        count: put_results(out, b, table, has_ended(plain), results),
+        count: put_results(out, b, table, has_ended(plain), results, signed),
         refused: false,
     }
 }
 
 // A reading of a table with so many input words given, and the results that it left.
-pub fn put_read(out: &mut [u8], table: &[u32], given: usize, plain: Plain, results: &[u32]) -> Told
+pub fn put_read(
+    out: &mut [u8],
+    table: &[u32],
+    given: usize,
+    plain: Plain,
+    results: &[u32],
+    signed: bool,
+) -> Told
     ensures { λ r. ⌜ r .count ≤ length (now (out .entry)) ⌝ }
 {
     match plain {
         Plain::Refused(number, row) => put_refused(out, number, table, given),
-        Plain::Ended(turns) => put_answered(out, table, plain, results),
-        Plain::ZeroStep(row, turns) => put_answered(out, table, plain, results),
-        Plain::Spent(turns) => put_answered(out, table, plain, results),
+        Plain::Ended(turns) => put_answered(out, table, plain, results, signed),
+        Plain::ZeroStep(row, turns) => put_answered(out, table, plain, results, signed),
+        Plain::Spent(turns) => put_answered(out, table, plain, results, signed),
     }
 }
 
@@ -350,6 +377,7 @@ fn put_other(
     state: &[u32],
     results: &[u32],
     k: usize,
+    signed: bool,
 ) -> usize
     requires { ⌜ (at ≤ length (now out)) × (k ≤ 8192) ⌝ }
     ensures { λ r. ⌜ r ≤ length (now (out .entry)) ⌝ }
@@ -357,10 +385,10 @@ fn put_other(
     if k < drawn::count_at(graph, 3) {
         let a = text::put(out, at, b"  result");
         let b = text::put_next(out, a, k as u64);
-        let c = text::put(out, b, b": by the graph");
-        let d = text::put_next(out, c, result_of(graph, state, k) as u64);
-        let e = text::put(out, d, b", by the reading");
-        let f = text::put_next(out, e, drawn::word_at(results, k) as u64);
+        let c = text::put(out, b, b": by the graph ");
+        let d = text::put_word(out, c, result_of(graph, state, k), signed);
+        let e = text::put(out, d, b", by the reading ");
+        let f = text::put_word(out, e, drawn::word_at(results, k), signed);
         return text::put_letter(out, f, b'\n');
     }
     at
@@ -389,13 +417,14 @@ fn put_opposed(
     state: &[u32],
     results: &[u32],
     k: usize,
+    signed: bool,
 ) -> usize
     requires { ⌜ k ≤ 8192 ⌝ }
     ensures { λ r. ⌜ r ≤ length (now (out .entry)) ⌝ }
 {
     let a = put_sides(out, answer, plain);
     if agreed_if(answer == COMPLETE, has_ended(plain)) == AGREED {
-        let b = put_other(out, a, graph, state, results, k);
+        let b = put_other(out, a, graph, state, results, k, signed);
         return put_advice(out, b);
     }
     put_advice(out, a)
@@ -426,6 +455,7 @@ pub fn put_held(
     state: &[u32],
     plain: Plain,
     results: &[u32],
+    signed: bool,
 ) -> Held
     ensures { λ r. ⌜ r .count ≤ length (now (out .entry)) ⌝ }
 {
@@ -439,7 +469,7 @@ pub fn put_held(
     }
     if what == OPPOSED {
         return Held {
-            count: put_opposed(out, answer, plain, graph, state, results, k),
+            count: put_opposed(out, answer, plain, graph, state, results, k, signed),
             differs: true,
         };
     }

@@ -1,4 +1,4 @@
-// Tells ends of a run and of a reading held together, also such as no table gives. Standard input has five parts for each, a semicolon behind each part: the run's answer; the reading's
+// Tells ends of a run and of a reading held together, also such as no table gives. Standard input has five parts for each, a semicolon behind each part: the run's answer, and a 1 behind it for words with a sign; the reading's
 // answer, its row or rule, and its turns; the words of a graph; those of a state; the results of the reading.
 ghost use Prim.Native.Nat.{_≤_, _<_};
 use engine::Plain;
@@ -13,9 +13,16 @@ fn plain_of(answer: u32, row: u32, turns: u32) -> Plain {
     }
 }
 
-fn tell(answer: u32, plain: Plain, graph: &[u32], state: &[u32], results: &[u32]) {
+fn tell(
+    answer: u32,
+    plain: Plain,
+    graph: &[u32],
+    state: &[u32],
+    results: &[u32],
+    signed: bool,
+) {
     let mut out = io::large_buffer();
-    let held = readings::put_held(&mut out, answer, graph, state, plain, results);
+    let held = readings::put_held(&mut out, answer, graph, state, plain, results, signed);
     let n = held.count;
     io::write_all(STDOUT_FILENO, &out[..n]);
 }
@@ -23,12 +30,12 @@ fn tell(answer: u32, plain: Plain, graph: &[u32], state: &[u32], results: &[u32]
 fn tell_ends(text: &[u8], at: usize, graph: &[u32], state: &[u32], results: &[u32])
     requires { ⌜ at < 1000 ⌝ }
 {
-    let mut run = [0u32; 1];
+    let mut run = [0u32; 2];
     let mut reading = [0u32; 3];
     text::words(text::part(text, at), &mut run);
     text::words(text::part(text, at + 1), &mut reading);
     let plain = plain_of(reading[0], reading[1], reading[2]);
-    tell(run[0], plain, graph, state, results);
+    tell(run[0], plain, graph, state, results, run[1] == 1);
 }
 
 fn tell_case(text: &[u8], at: usize)

@@ -83,29 +83,37 @@ fn put_refused(out: &mut [u8], number: u32, graph: &[u32], given: usize) -> Rehe
     }
 }
 
-fn put_word(out: &mut [u8], at: usize, state: &[u32], wire: u32) -> usize
+// The word on a wire, if one stands there.
+fn put_word(out: &mut [u8], at: usize, state: &[u32], wire: u32, signed: bool) -> usize
     requires { ⌜ at ≤ length (now out) ⌝ }
     ensures { λ r. ⌜ r ≤ length (now (out .entry)) ⌝ }
 {
     let place = 2 * (wire as usize);
     if drawn::word_at(state, place) == 0 {
-        return text::put(out, at, b" none");
+        return text::put(out, at, b"none");
     }
-    text::put_next(out, at, drawn::word_at(state, place + 1) as u64)
+    text::put_word(out, at, drawn::word_at(state, place + 1), signed)
 }
 
-fn put_result(out: &mut [u8], at: usize, state: &[u32], k: usize, wire: u32) -> usize
+fn put_result(
+    out: &mut [u8],
+    at: usize,
+    state: &[u32],
+    k: usize,
+    wire: u32,
+    signed: bool,
+) -> usize
     requires { ⌜ at ≤ length (now out) ⌝ }
     ensures { λ r. ⌜ r ≤ length (now (out .entry)) ⌝ }
 {
     let a = text::put(out, at, b"result");
     let b = text::put_next(out, a, k as u64);
-    let c = text::put_letter(out, b, b':');
-    let d = put_word(out, c, state, wire);
+    let c = text::put(out, b, b": ");
+    let d = put_word(out, c, state, wire, signed);
     text::put_letter(out, d, b'\n')
 }
 
-fn put_results(out: &mut [u8], at: usize, graph: &[u32], state: &[u32]) -> usize
+fn put_results(out: &mut [u8], at: usize, graph: &[u32], state: &[u32], signed: bool) -> usize
     requires { ⌜ at ≤ length (now out) ⌝ }
     ensures { λ r. ⌜ r ≤ length (now (out .entry)) ⌝ }
 {
@@ -114,7 +122,7 @@ fn put_results(out: &mut [u8], at: usize, graph: &[u32], state: &[u32]) -> usize
     let mut n = at;
     let mut k: usize = 0;
     while k < results {
-        n = put_result(out, n, state, k, drawn::word_at(graph, place + k));
+        n = put_result(out, n, state, k, drawn::word_at(graph, place + k), signed);
         k += 1;
     }
     n
@@ -176,14 +184,17 @@ fn put_why(
     nodes: &[u32],
     wires: &[u32],
     ran: Ran,
+    signed: bool,
 ) -> usize
     requires { ⌜ at ≤ length (now out) ⌝ }
     ensures { λ r. ⌜ r ≤ length (now (out .entry)) ⌝ }
 {
     match ran {
         Ran::ZeroStep(firings, node) => put_zero_step(out, at, graph, wires, node),
-        Ran::Stranded(firings) => standing::put_tokens(out, at, graph, state, nodes, wires),
-        Ran::Spent(firings) => standing::put_spent(out, at, graph, state, nodes),
+        Ran::Stranded(firings) => {
+            standing::put_tokens(out, at, graph, state, nodes, wires, signed)
+        }
+        Ran::Spent(firings) => standing::put_spent(out, at, graph, state, nodes, signed),
         Ran::Complete(firings) => at,
         Ran::Refused(number) => at,
     }
@@ -251,7 +262,7 @@ pub fn run_graph(
         return put_refused(out, number, graph, inputs.len());
     }
     let ran = traced::run_told(graph, nodes, wires, state, order, allowance, how);
-    put_rested(out, graph, nodes, wires, state, ran)
+    put_rested(out, graph, nodes, wires, state, ran, how.signed)
 }
 
 // What a run has left.
@@ -262,6 +273,7 @@ fn put_rested(
     wires: &[u32],
     state: &[u32],
     ran: Ran,
+    signed: bool,
 ) -> Rehearsed
     ensures { λ r. ⌜ r .count ≤ length (now (out .entry)) ⌝ }
 {
@@ -270,9 +282,9 @@ fn put_rested(
         return put_refused(out, number, graph, 0);
     }
     let a = put_answered(out, 0, graph, nodes, ran);
-    let b = put_why(out, a, graph, state, nodes, wires, ran);
+    let b = put_why(out, a, graph, state, nodes, wires, ran, signed);
     Rehearsed {
-        count: put_results(out, b, graph, state),
+        count: put_results(out, b, graph, state, signed),
         refused: false,
         answer: answer_of(ran),
     }

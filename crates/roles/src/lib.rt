@@ -154,12 +154,12 @@ pub fn put_wire(out: &mut [u8], at: usize, wires: &[u32], w: u32) -> usize
 }
 
 // A wire and the word on it, as ` 14=0 (row 1)`.
-pub fn put_token(out: &mut [u8], at: usize, wires: &[u32], w: u32, word: u32) -> usize
+pub fn put_token(out: &mut [u8], at: usize, wires: &[u32], w: u32, word: u32, signed: bool) -> usize
     requires { ⌜ at ≤ length (now out) ⌝ }
     ensures { λ r. ⌜ r ≤ length (now (out .entry)) ⌝ }
 {
     let a = text::put_next(out, at, w as u64);
     let b = text::put_letter(out, a, b'=');
-    let c = text::put_number(out, b, word as u64);
+    let c = text::put_word(out, b, word, signed);
     put_wire_role(out, c, wires, w as usize)
 }

@@ -1,5 +1,5 @@
 // What a run has left on the wires and in the records: the tokens that stand, who waits for what, and the loops that are open.
-// Nodes and wires have their rows and roles beside them, by the names of `roles`.
+// Nodes and wires have their rows and roles beside them, by the names of `roles`. `signed` tells words with a sign.
 ghost use Prim.Native.Nat.{_≤_, _<_, _+_};
 ghost use lib.ListN.{length};
 
@@ -170,6 +170,7 @@ fn put_standing(
     nodes: &[u32],
     wires: &[u32],
     w: usize,
+    signed: bool,
 ) -> usize
     requires { ⌜ (at ≤ length (now out)) × (w ≤ 8192) ⌝ }
     ensures { λ r. ⌜ r ≤ length (now (out .entry)) ⌝ }
@@ -177,7 +178,8 @@ fn put_standing(
     if is_full(state, w) {
         let wire = w as u32;
         let a = text::put(out, at, b"token");
-        let b = roles::put_token(out, a, wires, wire, drawn::word_at(state, 2 * w + 1));
+        let word = drawn::word_at(state, 2 * w + 1);
+        let b = roles::put_token(out, a, wires, wire, word, signed);
         let c = put_reader(out, b, graph, state, nodes, wires, wire);
         return text::put_letter(out, c, b'\n');
     }
@@ -192,6 +194,7 @@ pub fn put_tokens(
     state: &[u32],
     nodes: &[u32],
     wires: &[u32],
+    signed: bool,
 ) -> usize
     requires { ⌜ at ≤ length (now out) ⌝ }
     ensures { λ r. ⌜ r ≤ length (now (out .entry)) ⌝ }
@@ -200,7 +203,7 @@ pub fn put_tokens(
     let mut n = at;
     let mut w: usize = 0;
     while w < count {
-        n = put_standing(out, n, graph, state, nodes, wires, w);
+        n = put_standing(out, n, graph, state, nodes, wires, w, signed);
         w += 1;
     }
     n
@@ -225,12 +228,12 @@ fn is_open(graph: &[u32], state: &[u32], i: usize) -> bool
     false
 }
 
-fn put_register(out: &mut [u8], at: usize, name: &[u8], word: u32) -> usize
+fn put_register(out: &mut [u8], at: usize, name: &[u8], word: u32, signed: bool) -> usize
     requires { ⌜ at ≤ length (now out) ⌝ }
     ensures { λ r. ⌜ r ≤ length (now (out .entry)) ⌝ }
 {
     let n = text::put(out, at, name);
-    text::put_next(out, n, word as u64)
+    text::put_word(out, n, word, signed)
 }
 
 fn put_condition(out: &mut [u8], at: usize, code: u32) -> usize
@@ -243,13 +246,23 @@ fn put_condition(out: &mut [u8], at: usize, code: u32) -> usize
 }
 
 // Index, step and bound of an open loop, and what it asks to go on.
-fn put_registers(out: &mut [u8], at: usize, graph: &[u32], state: &[u32], i: usize) -> usize
+fn put_registers(
+    out: &mut [u8],
+    at: usize,
+    graph: &[u32],
+    state: &[u32],
+    i: usize,
+    signed: bool,
+) -> usize
     requires { ⌜ (at ≤ length (now out)) × (i ≤ 8192) ⌝ }
     ensures { λ r. ⌜ r ≤ length (now (out .entry)) ⌝ }
 {
-    let a = put_register(out, at, b": index", record_word(graph, state, i, 1));
-    let b = put_register(out, a, b", step", record_word(graph, state, i, 2));
-    let c = put_register(out, b, b", bound", record_word(graph, state, i, 3));
+    let index = record_word(graph, state, i, 1);
+    let step = record_word(graph, state, i, 2);
+    let bound = record_word(graph, state, i, 3);
+    let a = put_register(out, at, b": index ", index, signed);
+    let b = put_register(out, a, b", step ", step, signed);
+    let c = put_register(out, b, b", bound ", bound, signed);
     put_condition(out, c, drawn::row_word(graph, i, 1))
 }
 
@@ -260,6 +273,7 @@ fn put_open(
     state: &[u32],
     nodes: &[u32],
     i: usize,
+    signed: bool,
 ) -> usize
     requires { ⌜ (at ≤ length (now out)) × (i ≤ 8192) ⌝ }
     ensures { λ r. ⌜ r ≤ length (now (out .entry)) ⌝ }
@@ -267,13 +281,20 @@ fn put_open(
     if is_open(graph, state, i) {
         let a = text::put(out, at, b"open loop: ");
         let b = roles::put_node(out, a, graph, nodes, i);
-        return put_registers(out, b, graph, state, i);
+        return put_registers(out, b, graph, state, i, signed);
     }
     at
 }
 
 // Each loop that is open, a line each.
-pub fn put_loops(out: &mut [u8], at: usize, graph: &[u32], state: &[u32], nodes: &[u32]) -> usize
+pub fn put_loops(
+    out: &mut [u8],
+    at: usize,
+    graph: &[u32],
+    state: &[u32],
+    nodes: &[u32],
+    signed: bool,
+) -> usize
     requires { ⌜ at ≤ length (now out) ⌝ }
     ensures { λ r. ⌜ r ≤ length (now (out .entry)) ⌝ }
 {
@@ -281,14 +302,21 @@ pub fn put_loops(out: &mut [u8], at: usize, graph: &[u32], state: &[u32], nodes:
     let mut n = at;
     let mut i: usize = 0;
     while i < count {
-        n = put_open(out, n, graph, state, nodes, i);
+        n = put_open(out, n, graph, state, nodes, i, signed);
         i += 1;
     }
     n
 }
 
 // What a spent allowance leaves.
-pub fn put_spent(out: &mut [u8], at: usize, graph: &[u32], state: &[u32], nodes: &[u32]) -> usize
+pub fn put_spent(
+    out: &mut [u8],
+    at: usize,
+    graph: &[u32],
+    state: &[u32],
+    nodes: &[u32],
+    signed: bool,
+) -> usize
     requires { ⌜ at ≤ length (now out) ⌝ }
     ensures { λ r. ⌜ r ≤ length (now (out .entry)) ⌝ }
 {
@@ -303,7 +331,7 @@ pub fn put_spent(out: &mut [u8], at: usize, graph: &[u32], state: &[u32], nodes:
         b,
         b"; a larger --allowance helps where an index moves towards its bound\n",
     );
-    put_loops(out, c, graph, state, nodes)
+    put_loops(out, c, graph, state, nodes, signed)
 }
 
 // Whose step is 0: the wire that it came by.

@@ -300,6 +300,20 @@ fn wide(x: u32) -> u64 {
     x as u64
 }
 
+// A word, 0 to 4,294,967,295; or with its sign, -2,147,483,648 to 2,147,483,647.
+pub fn put_word(out: &mut [u8], at: usize, word: u32, signed: bool) -> usize
+    requires { ⌜ at ≤ length (now out) ⌝ }
+    ensures { λ r. ⌜ r ≤ length (now (out .entry)) ⌝ }
+{
+    if signed {
+        if word::is_negative(word) {
+            let n = put_letter(out, at, b'-');
+            return put_number(out, n, word::magnitude(word) as u64);
+        }
+    }
+    put_number(out, at, word as u64)
+}
+
 pub fn put_words(out: &mut [u8], at: usize, words: &[u32]) -> usize
     requires { ⌜ at ≤ length (now out) ⌝ }
     ensures { λ r. ⌜ r ≤ length (now (out .entry)) ⌝ }

@@ -18,9 +18,10 @@ const ORDER: u32 = 18;
 // After so many turns of nodes the firings so far are told: some seconds.
 const MANY: u64 = 100000000;
 
-// What is told of a run: each firing on `to`, or the firings so far on `err`.
+// What is told of a run: each firing on `to`, or the firings so far on `err`; and whether words have a sign.
 pub struct How {
     pub trace: bool,
+    pub signed: bool,
     pub to: i32,
     pub err: i32,
 }
@@ -73,6 +74,7 @@ fn put_token(
     full: u32,
     other: u32,
     word: u32,
+    signed: bool,
 ) -> usize
     requires { ⌜ at ≤ length (now out) ⌝ }
     ensures { λ r. ⌜ r ≤ length (now (out .entry)) ⌝ }
@@ -83,7 +85,7 @@ fn put_token(
     if full == 0 {
         return at;
     }
-    roles::put_token(out, at, wires, wire, word)
+    roles::put_token(out, at, wires, wire, word, signed)
 }
 
 // The tokens of wires `from` to `end` - 1 that are there and are not among the others.
@@ -97,6 +99,7 @@ fn put_tokens(
     others: [u32; 10],
     from: usize,
     end: usize,
+    signed: bool,
 ) -> usize
     requires { ⌜ (at ≤ length (now out)) × (node ≤ 8192) × (from ≤ end) × (end ≤ 5) ⌝ }
     ensures { λ r. ⌜ r ≤ length (now (out .entry)) ⌝ }
@@ -113,6 +116,7 @@ fn put_tokens(
             there[2 * k],
             others[2 * k],
             there[2 * k + 1],
+            signed,
         );
         k += 1;
     }
@@ -148,12 +152,13 @@ fn put_taken(
     node: usize,
     before: [u32; 10],
     after: [u32; 10],
+    signed: bool,
 ) -> usize
     requires { ⌜ (at ≤ length (now out)) × (node ≤ 8192) ⌝ }
     ensures { λ r. ⌜ r ≤ length (now (out .entry)) ⌝ }
 {
     let a = text::put(out, at, b", took");
-    let b = put_tokens(out, a, graph, wires, node, before, after, 0, 3);
+    let b = put_tokens(out, a, graph, wires, node, before, after, 0, 3, signed);
     put_nothing(out, a, b)
 }
 
@@ -165,12 +170,13 @@ fn put_given(
     node: usize,
     before: [u32; 10],
     after: [u32; 10],
+    signed: bool,
 ) -> usize
     requires { ⌜ (at ≤ length (now out)) × (node ≤ 8192) ⌝ }
     ensures { λ r. ⌜ r ≤ length (now (out .entry)) ⌝ }
 {
     let a = text::put(out, at, b" gave");
-    let b = put_tokens(out, a, graph, wires, node, after, before, 3, 5);
+    let b = put_tokens(out, a, graph, wires, node, after, before, 3, 5, signed);
     put_nothing(out, a, b)
 }
 
@@ -184,18 +190,19 @@ fn put_firing(
     node: usize,
     before: [u32; 10],
     after: [u32; 10],
+    signed: bool,
 ) -> usize
     requires { ⌜ node ≤ 8192 ⌝ }
     ensures { λ r. ⌜ r ≤ length (now (out .entry)) ⌝ }
 {
     let a = put_node(out, number, graph, nodes, node);
-    let b = put_taken(out, a, graph, wires, node, before, after);
-    let c = put_given(out, b, graph, wires, node, before, after);
+    let b = put_taken(out, a, graph, wires, node, before, after, signed);
+    let c = put_given(out, b, graph, wires, node, before, after, signed);
     text::put_letter(out, c, b'\n')
 }
 
 fn tell(
-    to: i32,
+    how: How,
     number: u64,
     graph: &[u32],
     nodes: &[u32],
@@ -207,8 +214,18 @@ fn tell(
     requires { ⌜ node ≤ 8192 ⌝ }
 {
     let mut out = io::buffer();
-    let n = put_firing(&mut out, number, graph, nodes, wires, node, before, after);
-    io::write_all(to, &out[..n]);
+    let n = put_firing(
+        &mut out,
+        number,
+        graph,
+        nodes,
+        wires,
+        node,
+        before,
+        after,
+        how.signed,
+    );
+    io::write_all(how.to, &out[..n]);
 }
 
 // The run told firing by firing.
@@ -222,7 +239,7 @@ fn turn_of(
     i: usize,
     left: u64,
     allowance: u64,
-    to: i32,
+    how: How,
 ) -> u64
     requires { ⌜ Runs (now graph) (length (now state)) × (i < nodeCount (now graph)) × (left ≤ allowance) ⌝ }
     ensures turn { λ r. ⌜ (at (now (state .exit)) r ≡ turn (netOf (now (graph .entry))) i (at (now (state .entry)) left)) × (r ≤ left) ⌝ }
@@ -234,7 +251,7 @@ fn turn_of(
     if firing::fire_node(graph, state, i) {
         let after = tokens_of(graph, state, i);
         tell(
-            to,
+            how,
             allowance - left + 1,
             graph,
             nodes,
@@ -255,7 +272,7 @@ fn follow_told(
     state: &mut [u32],
     order: &[u32],
     allowance: u64,
-    to: i32,
+    how: How,
 ) -> u64
     requires { ⌜ Runs (now graph) (length (now state)) × Below (now graph) (now order) ⌝ }
     ensures followed { λ r. ⌜ (at (now (state .exit)) r ≡ follow (netOf (now (graph .entry))) (now (order .entry)) (at (now (state .entry)) allowance)) × (r ≤ allowance) ⌝ }
@@ -271,7 +288,7 @@ fn follow_told(
             graph::wide(order[k]),
             left,
             allowance,
-            to,
+            how,
         );
         k += 1;
     }
@@ -285,7 +302,7 @@ fn sweep_told(
     state: &mut [u32],
     given: u64,
     allowance: u64,
-    to: i32,
+    how: How,
 ) -> u64
     requires { ⌜ Runs (now graph) (length (now state)) × (given ≤ allowance) ⌝ }
     ensures swept { λ r. ⌜ (at (now (state .exit)) r ≡ sweep (netOf (now (graph .entry))) (nodeCount (now (graph .entry))) (at (now (state .entry)) given)) × (r ≤ given) ⌝ }
@@ -294,7 +311,7 @@ fn sweep_told(
     let mut left = given;
     let mut i: usize = 0;
     while i < count {
-        left = turn_of(graph, nodes, wires, state, i, left, allowance, to);
+        left = turn_of(graph, nodes, wires, state, i, left, allowance, how);
         i += 1;
     }
     left
@@ -316,7 +333,7 @@ fn follow_order(
     ensures followed { λ r. ⌜ (at (now (state .exit)) r ≡ follow (netOf (now (graph .entry))) (now (order .entry)) (at (now (state .entry)) allowance)) × (r ≤ allowance) ⌝ }
 {
     if how.trace {
-        return follow_told(graph, nodes, wires, state, order, allowance, how.to);
+        return follow_told(graph, nodes, wires, state, order, allowance, how);
     }
     run::follow_order(graph, state, order, allowance)
 }
@@ -335,7 +352,7 @@ fn sweep_once(
     ensures swept { λ r. ⌜ (at (now (state .exit)) r ≡ sweep (netOf (now (graph .entry))) (nodeCount (now (graph .entry))) (at (now (state .entry)) given)) × (r ≤ given) ⌝ }
 {
     if how.trace {
-        return sweep_told(graph, nodes, wires, state, given, allowance, how.to);
+        return sweep_told(graph, nodes, wires, state, given, allowance, how);
     }
     run::sweep_once(graph, state, given)
 }

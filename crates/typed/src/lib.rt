@@ -1,6 +1,6 @@
 // A text of decimal words as people type it: its words, and the place of what is wrong with it.
 // Lines and columns are counted from 1 and a column is a letter of UTF-8; rows are counted from 0 and a row has the words kind and a to e.
-// White space stands between words, and # starts a comment that ends with its line.
+// White space stands between words, and # starts a comment that ends with its line. Word a of a CONST may have a sign.
 ghost use Prim.Native.Nat.{_≤_, _<_};
 ghost use lib.ListN.{length};
 
@@ -15,20 +15,33 @@ pub const LARGE: u32 = 2;
 // More words than there is room for.
 pub const MANY: u32 = 3;
 
+// A sign before a word that has none.
+pub const SIGN: u32 = 4;
+
+// A word below the least.
+pub const LOW: u32 = 5;
+
 const MOST_WORD: u64 = 4294967295;
 
-// The words that were read, and what was wrong first, with the offset of its letter or of its word's first digit.
+// The most that a word is below 0.
+const MOST_BELOW: u64 = 2147483648;
+
+// The kind whose word a may have a sign.
+const CONST: u32 = 1;
+
+// The words that were read, and what was wrong first, with the offset of its letter or of its word's first digit or sign.
 pub struct Typed {
     pub count: usize,
     pub problem: u32,
     pub at: usize,
 }
 
-// Where the reading stands: the words kept, the word that is being read and where it starts, and whether a comment is.
+// Where the reading stands: the words kept, the word that is being read, whether it has a sign and where it starts, and whether a comment is read.
 struct Scan {
     count: usize,
     value: u64,
     open: bool,
+    below: bool,
     start: usize,
     comment: bool,
     problem: u32,
@@ -70,31 +83,92 @@ fn spoiled(s: Scan, problem: u32, at: usize) -> Scan
     t
 }
 
+// One word more.
+fn kept(out: &mut [u32], s: Scan, word: u32) -> Scan
+    requires { ⌜ s .count ≤ length (now out) ⌝ }
+    ensures { λ r. ⌜ r .count ≤ length (now (out .entry)) ⌝ }
+{
+    let n = s.count;
+    if n < out.len() {
+        out[n] = word;
+        return Scan {
+            count: n + 1,
+            value: 0,
+            open: false,
+            below: false,
+            start: s.start,
+            comment: s.comment,
+            problem: 0,
+        };
+    }
+    spoiled(s, MANY, s.start)
+}
+
 // A word's end: the word is kept.
 fn keep(out: &mut [u32], s: Scan) -> Scan
     requires { ⌜ s .count ≤ length (now out) ⌝ }
     ensures { λ r. ⌜ r .count ≤ length (now (out .entry)) ⌝ }
 {
-    if s.open {
-        let value = s.value;
-        if MOST_WORD < value {
-            return spoiled(s, LARGE, s.start);
-        }
-        let n = s.count;
-        if n < out.len() {
-            out[n] = value as u32;
-            return Scan {
-                count: n + 1,
-                value: 0,
-                open: false,
-                start: s.start,
-                comment: s.comment,
-                problem: 0,
-            };
-        }
-        return spoiled(s, MANY, s.start);
+    if s.open {} else {
+        return s;
     }
-    s
+    let value = s.value;
+    if s.below {
+        if MOST_BELOW < value {
+            return spoiled(s, LOW, s.start);
+        }
+        return kept(out, s, word::negate(value as u32));
+    }
+    if MOST_WORD < value {
+        return spoiled(s, LARGE, s.start);
+    }
+    kept(out, s, value as u32)
+}
+
+// Whether the word behind `count` words is word a of a CONST.
+fn of_const(words: &[u32], count: usize) -> bool
+    requires { ⌜ count ≤ length (now words) ⌝ }
+{
+    if count % 6 == 1 {
+        return words[count - 1] == CONST;
+    }
+    false
+}
+
+fn is_digit(b: u8) -> bool {
+    match b {
+        48..=57 => true,
+        _ => false,
+    }
+}
+
+// Whether a sign starts a number of a table: not within a word, and before a digit.
+fn starts_number(open: bool, next: u8, rows: bool) -> bool {
+    if open {
+        return false;
+    }
+    if rows {
+        return is_digit(next);
+    }
+    false
+}
+
+// A sign at offset i, with the letter `next` behind it. One that starts no number is a letter as any other.
+fn sign(out: &[u32], s: Scan, i: usize, next: u8, rows: bool) -> Scan
+    requires { ⌜ s .count ≤ length (now out) ⌝ }
+    ensures { λ r. ⌜ r .count ≤ s .count ⌝ }
+{
+    if starts_number(s.open, next, rows) {} else {
+        return spoiled(s, LETTER, i);
+    }
+    if of_const(out, s.count) {} else {
+        return spoiled(s, SIGN, i);
+    }
+    let mut t = s;
+    t.start = i;
+    t.open = true;
+    t.below = true;
+    t
 }
 
 fn commented(s: Scan, comment: bool) -> Scan
@@ -115,7 +189,7 @@ fn passed(s: Scan, b: u8) -> Scan
     s
 }
 
-fn letter(out: &mut [u32], s: Scan, b: u8, i: usize) -> Scan
+fn letter(out: &mut [u32], s: Scan, b: u8, i: usize, next: u8, rows: bool) -> Scan
     requires { ⌜ s .count ≤ length (now out) ⌝ }
     ensures { λ r. ⌜ r .count ≤ length (now (out .entry)) ⌝ }
 {
@@ -127,6 +201,7 @@ fn letter(out: &mut [u32], s: Scan, b: u8, i: usize) -> Scan
         9..=13 => keep(out, s),
         32 => keep(out, s),
         b'#' => commented(keep(out, s), true),
+        b'-' => sign(out, s, i, next, rows),
         _ => spoiled(s, LETTER, i),
     }
 }
@@ -141,21 +216,22 @@ fn read_of(s: Scan) -> Typed
     }
 }
 
-// The words of a text, up to the first thing that is wrong.
-pub fn read(text: &[u8], words: &mut [u32]) -> Typed
+// The words of a text, up to the first thing that is wrong. `rows` says that it is a table's.
+pub fn read(text: &[u8], words: &mut [u32], rows: bool) -> Typed
     ensures { λ r. ⌜ r .count ≤ length (now (words .entry)) ⌝ }
 {
     let mut s = Scan {
         count: 0,
         value: 0,
         open: false,
+        below: false,
         start: 0,
         comment: false,
         problem: 0,
     };
     let mut i: usize = 0;
     while i < text.len() {
-        s = letter(words, s, text[i], i);
+        s = letter(words, s, text[i], i, byte_at(text, i + 1), rows);
         if s.problem != 0 {
             return read_of(s);
         }
@@ -423,6 +499,16 @@ fn put_what(out: &mut [u8], at: usize, problem: u32, rest: &[u8]) -> usize
     }
     if problem == LARGE {
         return text::put(out, at, b"a word over 4,294,967,295");
+    }
+    if problem == LOW {
+        return text::put(out, at, b"a word below -2,147,483,648");
+    }
+    if problem == SIGN {
+        return text::put(
+            out,
+            at,
+            b"'-' is no digit here: only word a of a CONST may be below 0",
+        );
     }
     text::put(
         out,

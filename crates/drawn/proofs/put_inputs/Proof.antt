@@ -7,10 +7,10 @@ use Rattle.drawn.proofs.put_inputs.Statement.{statement}
 use Rattle.drawn.proofs.put_inputs.Tie as tie
 
 abbrev Inv-loop : tie.InvT-loop
-Inv-loop out₀ at graph state wires i n₀ k₀ out n k = (k ≤ 3) × (n ≤ length out) × (length out ≡ length out₀)
+Inv-loop out₀ at graph state wires i signed n₀ k₀ out n k = (k ≤ 3) × (n ≤ length out) × (length out ≡ length out₀)
 
 abbrev μ-loop : tie.MeasureT-loop
-μ-loop out₀ at graph state wires i n₀ k₀ out n k = 3 - k
+μ-loop out₀ at graph state wires i signed n₀ k₀ out n k = 3 - k
 
 loop-holds : tie.Need-loop-holds Inv-loop μ-loop
 loop-holds c = search needs

@@ -7,10 +7,10 @@ use Rattle.drawn.proofs.put_nodes.Statement.{statement}
 use Rattle.drawn.proofs.put_nodes.Tie as tie
 
 abbrev Inv-loop : tie.InvT-loop
-Inv-loop out₀ at graph state nodes wires count n₀ i₀ out n i = (i ≤ count) × (count ≤ 8192) × (n ≤ length out) × (length out ≡ length out₀)
+Inv-loop out₀ at graph state nodes wires signed count n₀ i₀ out n i = (i ≤ count) × (count ≤ 8192) × (n ≤ length out) × (length out ≡ length out₀)
 
 abbrev μ-loop : tie.MeasureT-loop
-μ-loop out₀ at graph state nodes wires count n₀ i₀ out n i = count - i
+μ-loop out₀ at graph state nodes wires signed count n₀ i₀ out n i = count - i
 
 count-at-requires : tie.Need-count-at-requires Inv-loop μ-loop
 count-at-requires c κs = search needs

@@ -7,10 +7,10 @@ use Rattle.drawn.proofs.put_results.Statement.{statement}
 use Rattle.drawn.proofs.put_results.Tie as tie
 
 abbrev Inv-loop : tie.InvT-loop
-Inv-loop out₀ at graph state wires results n₀ k₀ out n k = (k ≤ results) × (results ≤ 8192) × (n ≤ length out) × (length out ≡ length out₀)
+Inv-loop out₀ at graph state wires signed results n₀ k₀ out n k = (k ≤ results) × (results ≤ 8192) × (n ≤ length out) × (length out ≡ length out₀)
 
 abbrev μ-loop : tie.MeasureT-loop
-μ-loop out₀ at graph state wires results n₀ k₀ out n k = results - k
+μ-loop out₀ at graph state wires signed results n₀ k₀ out n k = results - k
 
 count-at-requires : tie.Need-count-at-requires Inv-loop μ-loop
 count-at-requires c κs = search needs

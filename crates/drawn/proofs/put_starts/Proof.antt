@@ -7,10 +7,10 @@ use Rattle.drawn.proofs.put_starts.Statement.{statement}
 use Rattle.drawn.proofs.put_starts.Tie as tie
 
 abbrev Inv-loop : tie.InvT-loop
-Inv-loop out₀ at graph starts n₀ k₀ out n k = (k ≤ starts) × (starts ≤ 8192) × (n ≤ length out) × (length out ≡ length out₀)
+Inv-loop out₀ at graph signed starts n₀ k₀ out n k = (k ≤ starts) × (starts ≤ 8192) × (n ≤ length out) × (length out ≡ length out₀)
 
 abbrev μ-loop : tie.MeasureT-loop
-μ-loop out₀ at graph starts n₀ k₀ out n k = starts - k
+μ-loop out₀ at graph signed starts n₀ k₀ out n k = starts - k
 
 count-at-requires : tie.Need-count-at-requires Inv-loop μ-loop
 count-at-requires c κs = search needs

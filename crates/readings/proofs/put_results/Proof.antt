@@ -7,10 +7,10 @@ use Rattle.readings.proofs.put_results.Statement.{statement}
 use Rattle.readings.proofs.put_results.Tie as tie
 
 abbrev Inv-loop : tie.InvT-loop
-Inv-loop out₀ at table ended results last n₀ k₀ out n k = (k ≤ last) × (last ≤ 512) × (n ≤ length out) × (length out ≡ length out₀)
+Inv-loop out₀ at table ended results signed last n₀ k₀ out n k = (k ≤ last) × (last ≤ 512) × (n ≤ length out) × (length out ≡ length out₀)
 
 abbrev μ-loop : tie.MeasureT-loop
-μ-loop out₀ at table ended results last n₀ k₀ out n k = last - k
+μ-loop out₀ at table ended results signed last n₀ k₀ out n k = last - k
 
 rows-of-requires : tie.Need-rows-of-requires Inv-loop μ-loop
 rows-of-requires c κs = search needs

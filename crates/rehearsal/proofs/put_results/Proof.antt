@@ -7,10 +7,10 @@ use Rattle.rehearsal.proofs.put_results.Statement.{statement}
 use Rattle.rehearsal.proofs.put_results.Tie as tie
 
 abbrev Inv-loop : tie.InvT-loop
-Inv-loop out₀ at graph state place results n₀ k₀ out n k = (k ≤ results) × (results ≤ 8192) × (place ≤ 20000) × (n ≤ length out) × (length out ≡ length out₀)
+Inv-loop out₀ at graph state signed place results n₀ k₀ out n k = (k ≤ results) × (results ≤ 8192) × (place ≤ 20000) × (n ≤ length out) × (length out ≡ length out₀)
 
 abbrev μ-loop : tie.MeasureT-loop
-μ-loop out₀ at graph state place results n₀ k₀ out n k = results - k
+μ-loop out₀ at graph state signed place results n₀ k₀ out n k = results - k
 
 results-place-requires : tie.Need-results-place-requires Inv-loop μ-loop
 results-place-requires c κs = search needs

@@ -7,10 +7,10 @@ use Rattle.standing.proofs.put_loops.Statement.{statement}
 use Rattle.standing.proofs.put_loops.Tie as tie
 
 abbrev Inv-loop : tie.InvT-loop
-Inv-loop out₀ at graph state nodes count n₀ i₀ out n i = (n ≤ length out) × (length out ≡ length out₀) × (count ≤ 8192)
+Inv-loop out₀ at graph state nodes signed count n₀ i₀ out n i = (n ≤ length out) × (length out ≡ length out₀) × (count ≤ 8192)
 
 abbrev μ-loop : tie.MeasureT-loop
-μ-loop out₀ at graph state nodes count n₀ i₀ out n i = count - i
+μ-loop out₀ at graph state nodes signed count n₀ i₀ out n i = count - i
 
 count-at-requires : tie.Need-count-at-requires Inv-loop μ-loop
 count-at-requires c κs = search needs

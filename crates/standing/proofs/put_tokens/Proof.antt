@@ -7,10 +7,10 @@ use Rattle.standing.proofs.put_tokens.Statement.{statement}
 use Rattle.standing.proofs.put_tokens.Tie as tie
 
 abbrev Inv-loop : tie.InvT-loop
-Inv-loop out₀ at graph state nodes wires count n₀ w₀ out n w = (n ≤ length out) × (length out ≡ length out₀) × (count ≤ 8192)
+Inv-loop out₀ at graph state nodes wires signed count n₀ w₀ out n w = (n ≤ length out) × (length out ≡ length out₀) × (count ≤ 8192)
 
 abbrev μ-loop : tie.MeasureT-loop
-μ-loop out₀ at graph state nodes wires count n₀ w₀ out n w = count - w
+μ-loop out₀ at graph state nodes wires signed count n₀ w₀ out n w = count - w
 
 count-at-requires : tie.Need-count-at-requires Inv-loop μ-loop
 count-at-requires c κs = search needs

@@ -12,10 +12,10 @@ use Rattle.traced.proofs.follow_told.Statement.{statement}
 use Rattle.traced.proofs.follow_told.Tie as tie
 
 abbrev Inv-loop : tie.InvT-loop
-Inv-loop graph nodes wires state₀ order allowance to left₀ k₀ state left k = (k ≤ length order) × (length state ≡ length state₀) × (left ≤ allowance) × (follow (netOf graph) (drop k order) (at state left) ≡ follow (netOf graph) order (at state₀ allowance))
+Inv-loop graph nodes wires state₀ order allowance how left₀ k₀ state left k = (k ≤ length order) × (length state ≡ length state₀) × (left ≤ allowance) × (follow (netOf graph) (drop k order) (at state left) ≡ follow (netOf graph) order (at state₀ allowance))
 
 abbrev μ-loop : tie.MeasureT-loop
-μ-loop graph nodes wires state₀ order allowance to left₀ k₀ state left k = length order - k
+μ-loop graph nodes wires state₀ order allowance how left₀ k₀ state left k = length order - k
 
 loop-holds : tie.Need-loop-holds Inv-loop μ-loop
 loop-holds c = (omega arith, refl, omega arith, refl)

@@ -7,10 +7,10 @@ use Rattle.traced.proofs.put_tokens.Statement.{statement}
 use Rattle.traced.proofs.put_tokens.Tie as tie
 
 abbrev Inv-loop : tie.InvT-loop
-Inv-loop out₀ at graph wires node from end there others n₀ k₀ out n k = (k ≤ end) × (end ≤ 5) × (n ≤ length out) × (length out ≡ length out₀)
+Inv-loop out₀ at graph wires node from end signed there others n₀ k₀ out n k = (k ≤ end) × (end ≤ 5) × (n ≤ length out) × (length out ≡ length out₀)
 
 abbrev μ-loop : tie.MeasureT-loop
-μ-loop out₀ at graph wires node from end there others n₀ k₀ out n k = end - k
+μ-loop out₀ at graph wires node from end signed there others n₀ k₀ out n k = end - k
 
 loop-holds : tie.Need-loop-holds Inv-loop μ-loop
 loop-holds c = search needs

@@ -15,10 +15,10 @@ use Rattle.traced.proofs.sweep_told.Statement.{statement}
 use Rattle.traced.proofs.sweep_told.Tie as tie
 
 abbrev Inv-loop : tie.InvT-loop
-Inv-loop graph nodes wires state₀ given allowance to count left₀ i₀ state left i = (i ≤ count) × (count ≡ nodeCount graph) × (length state ≡ length state₀) × (left ≤ given) × (sweepFrom (netOf graph) (count - i) i (at state left) ≡ sweep (netOf graph) (nodeCount graph) (at state₀ given))
+Inv-loop graph nodes wires state₀ given allowance how count left₀ i₀ state left i = (i ≤ count) × (count ≡ nodeCount graph) × (length state ≡ length state₀) × (left ≤ given) × (sweepFrom (netOf graph) (count - i) i (at state left) ≡ sweep (netOf graph) (nodeCount graph) (at state₀ given))
 
 abbrev μ-loop : tie.MeasureT-loop
-μ-loop graph nodes wires state₀ given allowance to count left₀ i₀ state left i = count - i
+μ-loop graph nodes wires state₀ given allowance how count left₀ i₀ state left i = count - i
 
 shared-slice-read-wide : tie.Need-shared-slice-read-wide Inv-loop μ-loop
 shared-slice-read-wide c = let a = accepted _ (c .before .before .before .before .before .pre .0 .graph) .shape in omega arith

@@ -7,16 +7,22 @@ use Rattle.typed.proofs.read.Statement.{statement}
 use Rattle.typed.proofs.read.Tie as tie
 
 abbrev Inv-loop : tie.InvT-loop
-Inv-loop text words₀ s₀ i₀ words s i = (i ≤ length text) × (s .count ≤ length words) × (length words ≡ length words₀)
+Inv-loop text words₀ rows s₀ i₀ words s i = (i ≤ length text) × (s .count ≤ length words) × (length words ≡ length words₀)
 
 abbrev μ-loop : tie.MeasureT-loop
-μ-loop text words₀ s₀ i₀ words s i = length text - i
+μ-loop text words₀ rows s₀ i₀ words s i = length text - i
 
 loop-holds : tie.Need-loop-holds Inv-loop μ-loop
 loop-holds c = search needs
 
 shared-slice-read-letter : tie.Need-shared-slice-read-letter Inv-loop μ-loop
 shared-slice-read-letter c = search needs
+
+add-byte-at : tie.Need-add-byte-at Inv-loop μ-loop
+add-byte-at c = search needs
+
+byte-at-requires : tie.Need-byte-at-requires Inv-loop μ-loop
+byte-at-requires c κs = search needs
 
 letter-requires : tie.Need-letter-requires Inv-loop μ-loop
 letter-requires c κs = search needs
@@ -59,6 +65,8 @@ read-spec =
     μ-loop
     loop-holds
     shared-slice-read-letter
+    add-byte-at
+    byte-at-requires
     letter-requires
     read-of-requires
     same-length
