@@ -162,14 +162,7 @@ fn put_word(out: &mut [u8], at: usize, ended: bool, word: u32, signed: bool) -> 
     text::put(out, at, b"none")
 }
 
-fn put_result(
-    out: &mut [u8],
-    at: usize,
-    k: usize,
-    ended: bool,
-    word: u32,
-    signed: bool,
-) -> usize
+fn put_result(out: &mut [u8], at: usize, k: usize, ended: bool, word: u32, signed: bool) -> usize
     requires { ⌜ at ≤ length (now out) ⌝ }
     ensures { λ r. ⌜ r ≤ length (now (out .entry)) ⌝ }
 {
@@ -237,13 +230,7 @@ fn has_ended(plain: Plain) -> bool {
     }
 }
 
-fn put_answered(
-    out: &mut [u8],
-    table: &[u32],
-    plain: Plain,
-    results: &[u32],
-    signed: bool,
-) -> Told
+fn put_answered(out: &mut [u8], table: &[u32], plain: Plain, results: &[u32], signed: bool) -> Told
     ensures { λ r. ⌜ r .count ≤ length (now (out .entry)) ⌝ }
 {
     let a = put_plain(out, 0, plain);

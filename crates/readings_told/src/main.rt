@@ -13,14 +13,7 @@ fn plain_of(answer: u32, row: u32, turns: u32) -> Plain {
     }
 }
 
-fn tell(
-    answer: u32,
-    plain: Plain,
-    graph: &[u32],
-    state: &[u32],
-    results: &[u32],
-    signed: bool,
-) {
+fn tell(answer: u32, plain: Plain, graph: &[u32], state: &[u32], results: &[u32], signed: bool) {
     let mut out = io::large_buffer();
     let held = readings::put_held(&mut out, answer, graph, state, plain, results, signed);
     let n = held.count;

@@ -95,14 +95,7 @@ fn put_word(out: &mut [u8], at: usize, state: &[u32], wire: u32, signed: bool) -
     text::put_word(out, at, drawn::word_at(state, place + 1), signed)
 }
 
-fn put_result(
-    out: &mut [u8],
-    at: usize,
-    state: &[u32],
-    k: usize,
-    wire: u32,
-    signed: bool,
-) -> usize
+fn put_result(out: &mut [u8], at: usize, state: &[u32], k: usize, wire: u32, signed: bool) -> usize
     requires { ⌜ at ≤ length (now out) ⌝ }
     ensures { λ r. ⌜ r ≤ length (now (out .entry)) ⌝ }
 {
