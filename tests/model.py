@@ -866,9 +866,9 @@ def lowering_cases():
 ALL_KINDS = table([INPUT], [CONST, 7], [ROW_OP, 1, 0, 1], [ROW_PICK, 2, 0, 1], [FOR, 1, 2, 0, 5, 4], [ARG, 3], [NEXT, 10], [END], [OUT, X])
 
 
-def index_sum(update, condition):
+def index_sum(code, going):
     """A loop from one input by the next to the third that adds up its index."""
-    return table([INPUT], [INPUT], [INPUT], [CONST, 0], [FOR, 0, 1, 2, update, condition], [ARG, 3], [ROW_OP, 0, 5, 4], [NEXT, 6], [END], [OUT, 7])
+    return table([INPUT], [INPUT], [INPUT], [CONST, 0], [FOR, 0, 1, 2, code, going], [ARG, 3], [ROW_OP, 0, 5, 4], [NEXT, 6], [END], [OUT, 7])
 
 
 # What it shows, start, step, bound, update, condition.
@@ -1055,8 +1055,8 @@ def wire_told(x, names):
     return f' ({carried(*names[3 * x:3 * x + 3])})' if names else ''
 
 
-def tracing(g, words, allowance, names=(), wire_names=()):
-    """The lines of a traced run by sweeps, and the state it ends in."""
+def tracing(g, words, allowance, names=(), wire_names=(), told=int):
+    """The lines of a traced run by sweeps, and the state it ends in. Words are told as they are, or by `value` with a sign."""
     graph = Graph(g)
     nodes, state = graph.nodes(), State(graph, words)
     lines, before = [], -1
@@ -1065,14 +1065,14 @@ def tracing(g, words, allowance, names=(), wire_names=()):
         for i, node in enumerate(nodes):
             done = ready(node, state, i)
             if done is None or len(lines) == allowance: continue
-            took = [f' {node.ins[k]}={state.tokens[node.ins[k]]}{wire_told(node.ins[k], wire_names)}' for k in done[0]]
-            gave = [f' {node.first + k}={word}{wire_told(node.first + k, wire_names)}' for k, word in sorted(done[1].items())]
+            took = [f' {node.ins[k]}={told(state.tokens[node.ins[k]])}{wire_told(node.ins[k], wire_names)}' for k in done[0]]
+            gave = [f' {node.first + k}={told(word)}{wire_told(node.first + k, wire_names)}' for k, word in sorted(done[1].items())]
             perform(node, state, i, done)
             lines.append(f'{len(lines) + 1}: {node_told(i, node, names)}, took{"".join(took) or " nothing"} gave{"".join(gave) or " nothing"}')
     return lines, state.words()
 
 
-def rehearsed(g, words, allowance, names=(), wire_names=()):
+def rehearsed(g, words, allowance, names=(), wire_names=(), told=int):
     """What people are told of a run by sweeps."""
     no, end, firings, node, s = run(allowance, g, words, [])
     graph = Graph(g)
@@ -1081,14 +1081,23 @@ def rehearsed(g, words, allowance, names=(), wire_names=()):
     out = [f'{["COMPLETE", "ZERO STEP", "STRANDED", "SPENT"][end]} after {firings} firings' + (f' at {node_told(node, nodes[node], names)}' if stalled else '')
            + f', {g[0]} nodes, {g[1]} wires']
     if stalled: out.append(f'its step is the word 0 on wire {nodes[node].ins[1]}{wire_told(nodes[node].ins[1], wire_names)}')
+    if end == 2:
+        for w, token in enumerate(state.tokens):
+            if token is None: continue
+            line = f'token {w}={told(token)}{wire_told(w, wire_names)}'
+            for i, node in enumerate(nodes):
+                if w not in node.ins[:len(node.input_sorts())]: continue
+                lacks = [f' {x}{wire_told(x, wire_names)}' for x in node.ins[:len(node.input_sorts())] if state.tokens[x] is None]
+                line += f' waits at {node_told(i, node, names)}, inputs without a token:{"".join(lacks) or " none"}'
+            out.append(line + (' is a result' if w in graph.results else ''))
     if end == 3:
         standing = sum(t is not None for t in state.tokens)
         out.append(f'the allowance is spent and the results are not final; tokens on wires: {standing}; a larger --allowance helps where an index moves towards its bound')
         for i, (node, (phase, index, step, bound)) in enumerate(zip(nodes, state.records)):
             if node.kind == STREAM and phase == 1:
                 test = '< <= > >= !='.split()[node.code % 5]
-                out.append(f'open loop: {node_told(i, node, names)}: index {index}, step {step}, bound {bound}, goes on while index {test} bound')
-    return out + [f'result {k}: {"none" if state.tokens[x] is None else state.tokens[x]}' for k, x in enumerate(graph.results)]
+                out.append(f'open loop: {node_told(i, node, names)}: index {told(index)}, step {told(step)}, bound {told(bound)}, goes on while index {test} bound')
+    return out + [f'result {k}: {"none" if state.tokens[x] is None else told(state.tokens[x])}' for k, x in enumerate(graph.results)]
 
 
 def wire_name(what, row, of):
@@ -1157,9 +1166,11 @@ if __name__ == '__main__':
     elif what == ['draw']:
         print('\n'.join(drawing(*[numbers(x) for x in sys.stdin.read().split(';')])))
     elif what == ['trace']:
-        g, inputs, s, *names = [numbers(x) for x in sys.stdin.read().split(';')]
-        loaded = load(len(s), g, inputs)[1]
-        print('\n'.join(rehearsed(g, loaded, 1000, *names) + tracing(g, loaded, 1000, *names)[0] + rehearsed(g, loaded, 1000, *names) + rehearsed(g, loaded, 30, *names)))
+        parts = [numbers(x) for x in sys.stdin.read().split(';')]
+        for k, told in ((0, int), (5, value)):
+            g, inputs, s, *names = parts[k:k + 5]
+            loaded = load(len(s), g, inputs)[1]
+            print('\n'.join(rehearsed(g, loaded, 1000, *names, told) + tracing(g, loaded, 1000, *names, told)[0] + rehearsed(g, loaded, 1000, *names, told) + rehearsed(g, loaded, 30, *names, told)))
     elif what == ['lower']:
         print('\n'.join(drawing(lowered(table_words(sys.stdin.read()))[0], []))[:].partition('digraph')[0], end='')
     elif what == ['names']:

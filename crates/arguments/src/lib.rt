@@ -59,11 +59,6 @@ pub const UNRUN: u32 = 12;
 // The allowance of firings and that of turns where none is asked: more than any rehearsal of a station takes, and over in minutes.
 pub const USUAL: u64 = 1000000000;
 
-const MOST_WORD: u64 = 4294967295;
-
-// The most that an input is below 0.
-const MOST_BELOW: u64 = 2147483648;
-
 // `table` and `order` are numbers of arguments, 0 where none names the file; `run` says that a run was asked for by an input or an option,
 // `steered` that an option was given which a run alone takes, and `turned` that --turns was. `signed` says that words are to be told with a sign.
 // `problem` is the first that is wrong, and `at` its argument.
@@ -247,18 +242,18 @@ fn named(given: Asked, k: usize) -> Asked
 fn number_to(text: &[u8], most: u64) -> u64 {
     let n = text::number(text);
     if n.problem != 0 {
-        return MOST_WORD + 1;
+        return text::MOST_WORD + 1;
     }
     if most < n.value {
-        return MOST_WORD + 1;
+        return text::MOST_WORD + 1;
     }
     n.value
 }
 
 // What follows a sign: the word below 0, or past every word.
 fn word_below(text: &[u8]) -> u64 {
-    let size = number_to(text, MOST_BELOW);
-    if MOST_BELOW < size {
+    let size = number_to(text, text::MOST_BELOW);
+    if text::MOST_BELOW < size {
         return size;
     }
     word::negate(size as u32) as u64
@@ -271,7 +266,7 @@ fn word_of(arg: &[u8]) -> u64 {
             return word_below(&arg[1..]);
         }
     }
-    number_to(arg, MOST_WORD)
+    number_to(arg, text::MOST_WORD)
 }
 
 // An input word is kept.
@@ -284,7 +279,7 @@ fn input(given: Asked, k: usize, arg: &[u8], inputs: &mut [u32]) -> Asked
         return wrong(given, INPUTS, k);
     }
     let word = word_of(arg);
-    if MOST_WORD < word {
+    if text::MOST_WORD < word {
         return wrong(given, WORD, k);
     }
     inputs[n] = word as u32;
@@ -300,16 +295,9 @@ fn is_option(arg: &[u8]) -> bool {
         return false;
     }
     if arg[0] == b'-' {
-        return !is_digit(arg[1]);
+        return !text::is_digit(arg[1]);
     }
     false
-}
-
-fn is_digit(b: u8) -> bool {
-    match b {
-        48..=57 => true,
-        _ => false,
-    }
 }
 
 // An argument that no option waits for.

@@ -586,12 +586,11 @@ pub fn put_drawing(
     state: &[u32],
     nodes: &[u32],
     wires: &[u32],
-    signed: bool,
 ) -> usize
     requires { ⌜ at ≤ length (now out) ⌝ }
     ensures { λ r. ⌜ r ≤ length (now (out .entry)) ⌝ }
 {
-    let a = put_top(out, at, graph, signed);
-    let b = put_nodes(out, a, graph, state, nodes, wires, signed);
-    put_bottom(out, b, graph, state, wires, signed)
+    let a = put_top(out, at, graph, false);
+    let b = put_nodes(out, a, graph, state, nodes, wires, false);
+    put_bottom(out, b, graph, state, wires, false)
 }

@@ -149,12 +149,12 @@ pub the-loop-at-row-3-is-named : (order u : List ℕ) → Fires (loweredWords in
 the-loop-at-row-3-is-named order u f h = all-name indexSteps 7 index-steps-is-checked index-steps-rests order u f h ∙ sym (the-two-streams .0)
 
 -- ---- a loop that the reading has left is named
--- CONST 1, CONST 0, FOR 0 0 0 -= <=, FOR 1 2 0 += <, END, FOR 1 1 0 += <, END, END, OUT 0: two loops side by side in a third. In the outer loop's first turn
+-- CONST 1, CONST 0, FOR 0 0 1 -= >=, FOR 1 2 0 += <, END, FOR 1 1 0 += <, END, END, OUT 0: two loops side by side in a third. In the outer loop's first turn
 -- the loop at row 3 has step 1 and is left; the one at row 5 has step 0, and there the reading stops. The machines of the other two go on: in the outer
 -- loop's second turn, its index 0, the loop at row 3 has step 0 too.
 
 abbrev pub leftLoop : List ℕ
-leftLoop = const 1 (const 0 (loop 0 0 0 1 1 (loop 1 2 0 0 0 (close (loop 1 1 0 0 0 (close (close (out 0))))))))
+leftLoop = const 1 (const 0 (loop 0 0 1 1 3 (loop 1 2 0 0 0 (close (loop 1 1 0 0 0 (close (close (out 0))))))))
 
 left-loop-passes : tableRefusal leftLoop ≡ answer 0 0
 unfolding check-computes
@@ -178,13 +178,13 @@ leftGraph =
     36 ∷ 53 ∷ 2 ∷ 1 ∷
     1 ∷ 1 ∷
     1 ∷ 0 ∷
-    34 ∷
-    0 ∷ 6 ∷ 0 ∷ 23 ∷ 25 ∷ 27 ∷ 2 ∷
+    30 ∷
+    0 ∷ 8 ∷ 0 ∷ 23 ∷ 25 ∷ 31 ∷ 2 ∷
     1 ∷ 0 ∷ 0 ∷ 2 ∷ 3 ∷ absent ∷ 4 ∷
-    7 ∷ 4 ∷ 0 ∷ 29 ∷ 31 ∷ absent ∷ 6 ∷
-    4 ∷ 0 ∷ 0 ∷ 37 ∷ 33 ∷ absent ∷ 7 ∷
+    7 ∷ 6 ∷ 0 ∷ 27 ∷ 33 ∷ absent ∷ 6 ∷
+    4 ∷ 0 ∷ 0 ∷ 37 ∷ 29 ∷ absent ∷ 7 ∷
     3 ∷ 0 ∷ 0 ∷ 35 ∷ 7 ∷ absent ∷ 9 ∷
-    4 ∷ 0 ∷ 0 ∷ 38 ∷ 1 ∷ absent ∷ 10 ∷
+    4 ∷ 0 ∷ 0 ∷ 38 ∷ 34 ∷ absent ∷ 10 ∷
     3 ∷ 0 ∷ 0 ∷ 36 ∷ 10 ∷ absent ∷ 12 ∷
     0 ∷ 0 ∷ 0 ∷ 45 ∷ 4 ∷ 39 ∷ 13 ∷
     1 ∷ 0 ∷ 0 ∷ 13 ∷ 14 ∷ absent ∷ 15 ∷
@@ -196,7 +196,7 @@ leftGraph =
     5 ∷ 0 ∷ 0 ∷ 24 ∷ absent ∷ absent ∷ 25 ∷
     5 ∷ 0 ∷ 0 ∷ 26 ∷ absent ∷ absent ∷ 27 ∷
     5 ∷ 0 ∷ 0 ∷ 28 ∷ absent ∷ absent ∷ 29 ∷
-    5 ∷ 0 ∷ 0 ∷ 30 ∷ absent ∷ absent ∷ 31 ∷
+    5 ∷ 0 ∷ 0 ∷ 1 ∷ absent ∷ absent ∷ 31 ∷
     5 ∷ 0 ∷ 0 ∷ 32 ∷ absent ∷ absent ∷ 33 ∷
     5 ∷ 0 ∷ 1 ∷ 5 ∷ absent ∷ absent ∷ 35 ∷
     5 ∷ 0 ∷ 1 ∷ 6 ∷ absent ∷ absent ∷ 37 ∷

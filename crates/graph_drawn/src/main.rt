@@ -4,7 +4,7 @@ use libc::STDOUT_FILENO;
 fn draw(graph: &[u32], state: &[u32], nodes: &[u32], wires: &[u32]) {
     let mut out = io::large_buffer();
     let n = drawn::put_graph(&mut out, 0, graph);
-    let m = drawn::put_drawing(&mut out, n, graph, state, nodes, wires, false);
+    let m = drawn::put_drawing(&mut out, n, graph, state, nodes, wires);
     io::write_all(STDOUT_FILENO, &out[..m]);
 }
 

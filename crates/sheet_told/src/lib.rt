@@ -86,13 +86,6 @@ fn is_marked(marks: &[bool], b: u8) -> bool {
     false
 }
 
-fn is_digit(b: u8) -> bool {
-    match b {
-        48..=57 => true,
-        _ => false,
-    }
-}
-
 // The last of the marked digits that follow a digit.
 fn last_digit(marks: &[bool], b: u8) -> u8 {
     let mut last = b;
@@ -124,7 +117,7 @@ fn put_byte(out: &mut [u8], at: usize, marks: &[bool], b: u8) -> usize
         return text::put(out, at, b"the end of the line");
     }
     let n = put_quoted(out, at, b);
-    if is_digit(b) {
+    if text::is_digit(b) {
         let last = last_digit(marks, b);
         if b < last {
             let m = text::put(out, n, b" to ");
@@ -139,8 +132,8 @@ fn is_told(marks: &[bool], b: u8) -> bool
     requires { ⌜ 0 < b ⌝ }
 {
     if is_marked(marks, b) {
-        if is_digit(b) {
-            if is_digit(b - 1) {
+        if text::is_digit(b) {
+            if text::is_digit(b - 1) {
                 return !is_marked(marks, b - 1);
             }
         }

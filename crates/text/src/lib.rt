@@ -16,7 +16,10 @@ pub const MANY: u32 = 3;
 // No number, or two, where one is wanted.
 pub const SINGLE: u32 = 4;
 
-const MOST_WORD: u64 = 4294967295;
+pub const MOST_WORD: u64 = 4294967295;
+
+// The most that a word is below 0.
+pub const MOST_BELOW: u64 = 2147483648;
 
 // The largest 64-bit number without its last digit, 5.
 const MOST_TENTH: u64 = 1844674407370955161;
@@ -40,6 +43,13 @@ fn spoiled(s: Scan, problem: u32) -> Scan
         value: 0,
         open: false,
         problem,
+    }
+}
+
+pub fn is_digit(b: u8) -> bool {
+    match b {
+        48..=57 => true,
+        _ => false,
     }
 }
 

@@ -21,11 +21,6 @@ pub const SIGN: u32 = 4;
 // A word below the least.
 pub const LOW: u32 = 5;
 
-const MOST_WORD: u64 = 4294967295;
-
-// The most that a word is below 0.
-const MOST_BELOW: u64 = 2147483648;
-
 // The kind whose word a may have a sign.
 const CONST: u32 = 1;
 
@@ -52,7 +47,7 @@ fn longer(value: u64, digit: u8) -> u64 {
     if value < 429496730 {
         return value * 10 + digit as u64;
     }
-    MOST_WORD + 1
+    text::MOST_WORD + 1
 }
 
 // Where the word starts that the digit at i belongs to.
@@ -114,12 +109,12 @@ fn keep(out: &mut [u32], s: Scan) -> Scan
     }
     let value = s.value;
     if s.below {
-        if MOST_BELOW < value {
+        if text::MOST_BELOW < value {
             return spoiled(s, LOW, s.start);
         }
         return kept(out, s, word::negate(value as u32));
     }
-    if MOST_WORD < value {
+    if text::MOST_WORD < value {
         return spoiled(s, LARGE, s.start);
     }
     kept(out, s, value as u32)
@@ -135,20 +130,13 @@ fn of_const(words: &[u32], count: usize) -> bool
     false
 }
 
-fn is_digit(b: u8) -> bool {
-    match b {
-        48..=57 => true,
-        _ => false,
-    }
-}
-
 // Whether a sign starts a number of a table: not within a word, and before a digit.
 fn starts_number(open: bool, next: u8, rows: bool) -> bool {
     if open {
         return false;
     }
     if rows {
-        return is_digit(next);
+        return text::is_digit(next);
     }
     false
 }

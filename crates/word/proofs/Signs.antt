@@ -1,6 +1,6 @@
 -- The signs that the code works out on words, against the values.
 -- Main results: `below-found`, `at-most-found` (words with their sign bits turned are ordered as their values), `sign-told`, `near`, `far`, `minus`
--- (sign, magnitude, negative), `signs-alike`, `signs-apart` (a quotient is the magnitudes' with a sign), `shift-positive`, `shift-negative`.
+-- (sign, magnitude, negative), `divisor`, `signs-apart`, `signs-alike` (a quotient is the magnitudes' with a sign), `shift-positive`, `shift-negative`.
 -- Assumes nothing.
 use Prim.Native.Nat.{ℕ, zero, suc, _+_, _-_, _/_, _%_, _<_, _≤_}
 use mathlib.Core.Bool.{Bool, true, false, not, Bool·beq}
@@ -87,12 +87,12 @@ module _ (x y : ℕ) (n : y ≡ 0 → ⊥) {s t : Bool} {a b : ℕ} (hs : s ≡ 
   magnitudes : a / b ≡ natAbs (valueOf x) / natAbs (valueOf y)
   magnitudes = ap (λ (k : ℕ). k / b) ha ∙ ap (λ (k : ℕ). natAbs (valueOf x) / k) hb
 
-  pub signs-alike : Bool·beq s t ≡ true → a / b ≡ quotient x y
-  signs-alike e = magnitudes ∙ alike (valueOf x) (valueOf y) (same-signs e) ∙ sym (rw (ne-eqb y 0 n))
-
   pub signs-apart : Bool·beq s t ≡ false → wordOf (negℤ (pos (a / b))) ≡ quotient x y
   signs-apart e =
       ap (λ (k : ℕ). wordOf (negℤ (pos k))) magnitudes ∙ apart (valueOf x) (valueOf y) (same-signs e) ∙ sym (rw (ne-eqb y 0 n))
+
+  pub signs-alike : Bool·beq s t ≡ true → a / b ≡ quotient x y
+  signs-alike e = magnitudes ∙ alike (valueOf x) (valueOf y) (same-signs e) ∙ sym (rw (ne-eqb y 0 n))
 
 -- A right shift by the sign s.
 module _ (x m : ℕ) {s : Bool} (hs : s ≡ not (nonNeg (valueOf x))) where

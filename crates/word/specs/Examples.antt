@@ -153,12 +153,13 @@ left-shift-ends-at-32 :
 unfolding update
 left-shift-ends-at-32 = (refl, refl, refl, refl)
 
--- 16, -16 and the greatest value; 32 places and more are as many as 32
+-- 16, -16, -1 and the greatest value
 right-shift-keeps-the-sign :
     (update 5 16 1 ≡ 8) × (update 5 4294967280 2 ≡ 4294967292) × (update 5 4294967295 31 ≡ 4294967295) × (update 5 2147483647 31 ≡ 0)
 unfolding update
 right-shift-keeps-the-sign = (refl, refl, refl, refl)
 
+-- the greatest and the least value, 1 and -8
 right-shift-ends-at-32 :
     (update 5 2147483647 32 ≡ 0) × (update 5 2147483648 32 ≡ 4294967295) × (update 5 1 4294967295 ≡ 0) × (update 5 4294967288 40 ≡ 4294967295)
 unfolding update

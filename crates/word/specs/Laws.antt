@@ -1,6 +1,6 @@
 -- What crates above may know of words: which answers are flags, which are words, what a code beyond its list gives,
 -- and that the operators from code 3 on are the conditions. Crates above cite these laws and leave the definitions shut; what holds of the values is
--- in `Values`.
+-- in `Values`. `by-sign`, `at-most-not-more` and `abs-of-negative`, of integers, serve both and the proofs of the code.
 -- Main results: `condition-flag`, `update-word`, `operate-word`, `operate-flag`, `operate-condition`, and
 -- `condition-beyond`, `update-beyond`, `operate-beyond`.
 -- Assumes nothing.
@@ -58,15 +58,15 @@ word-of-near : (z : ℤ) → natAbs z < wordLimit → wordOf z < wordLimit
 word-of-near (pos n) h = h
 word-of-near (negsuc n) h = omega arith
 
-abs-negative : (n : ℕ) → natAbs (negℤ (pos n)) ≤ n
-abs-negative zero = omega arith
-abs-negative (suc n) = omega arith
+pub abs-of-negative : (n : ℕ) → natAbs (negℤ (pos n)) ≡ n
+abs-of-negative zero = refl
+abs-of-negative (suc n) = refl
 
 -- Neither a quotient nor a shift to the right leads away from 0.
 quotient-nearer : (a b : ℤ) → natAbs (quotZ a b) ≤ natAbs a
 quotient-nearer (pos a) (pos b) = div-le-self a b
-quotient-nearer (pos a) (negsuc b) = let q = div-le-self a (suc b) in let n = abs-negative (a / suc b) in omega arith
-quotient-nearer (negsuc a) (pos b) = let q = div-le-self (suc a) b in let n = abs-negative (suc a / b) in omega arith
+quotient-nearer (pos a) (negsuc b) = let q = div-le-self a (suc b) in let n = abs-of-negative (a / suc b) in omega arith
+quotient-nearer (negsuc a) (pos b) = let q = div-le-self (suc a) b in let n = abs-of-negative (suc a / b) in omega arith
 quotient-nearer (negsuc a) (negsuc b) = div-le-self (suc a) (suc b)
 
 shift-nearer : (a : ℤ) (m : ℕ) → natAbs (shrZ a m) ≤ natAbs a

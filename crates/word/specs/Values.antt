@@ -1,25 +1,26 @@
 -- What people may rely on of words read with a sign. A value here is `valueOf` of a word, and numbers are the library's integers.
 -- Main results:
---   word-of-value, value-of-word    each word has one value, and the values are those from -2^31 to 2^31 - 1
+--   word-of-value, value-of-word    no two words have one value, and every number from -2^31 to 2^31 - 1 is one; `value-in-range`: no other is
+--   sum-in-range                    a sum of values that is a value comes out; `difference-in-range`, `product-in-range` likewise
 --   sign-agrees                     `<` is the order of the values; `more-is-less`, `at-least-is-not-less`, `at-most-is-not-more` and
 --                                   `unequal-by-value` tell the other conditions by it
---   quotient-toward-zero            `/=` is the quotient whose remainder is smaller than the divisor and has the dividend's sign
+--   quotient-toward-zero            `/=` is the quotient whose remainder is nearer to 0 than the divisor, and is 0 or has the dividend's sign
 --   shift-is-floor                  `>>=` is the value divided by the power of two and rounded down, whatever the count
---   far-left-shift, far-right-shift what counts over 31 leave
+--   quotient-by-zero, least-by-minus-one, far-left-shift, far-right-shift     the rest: what has no quotient, and counts over 31
 -- Assumes nothing.
 use Prim.Native.Nat.{ℕ, zero, suc, _+_, _-_, _*_, _/_, _%_, _^_, _<_, _≤_}
 use mathlib.Core.Path.{_≡_, refl, sym, ap, subst, subst⁻¹, _∙_}
 use mathlib.Core.Bool.{Bool, true, false, not}
 use mathlib.Core.Logic.{_⊎_, inl, inr, _↔_}
 use native.Mathlib.Omega.{arith}
-use native.Mathlib.Nat.{lt-of-lt-of-le, lt-of-le-of-lt, mod-lt, div-le-self, div-eq-of-lt, div-add-mod', div-mul-le-self, mul-le-mul-left, suc-mul}
+use native.Mathlib.Nat.{lt-of-lt-of-le, lt-of-le-of-lt, mod-lt, div-le-self, div-eq-of-lt, div-add-mod', div-mul-le-self, mul-le-mul-left, suc-mul, mul-add, add-mul, mul-comm}
 use borrow.Author.Tests.{eq-eqb, ne-eqb, eqb-true, lt-ltb, le-ltb, ltb-true, ltb-false}
 use lib.Dec.{T, ltb, eqb}
 use lib.Pow.{pow-pos, pow-mono}
-use lib.IntN.{ℤ, pos, negsuc, negℤ, natAbs, subℕ, _+ℤ_, _*ℤ_, negℤ-+ℤ}
+use lib.IntN.{ℤ, pos, negsuc, negℤ, natAbs, subℕ, _+ℤ_, _-ℤ_, _*ℤ_, negℤ-+ℤ}
 use lib.Signed.{mag, mag-shr, nonNeg, ltZ, quotZ, remZ, shrZ}
-use Rattle.word.specs.Laws.{by-sign, at-most-not-more}
-use Rattle.word.specs.Words.{pick, wordLimit, valueOf, wordOf, flag, quotient, shiftRight, update, condition}
+use Rattle.word.specs.Laws.{by-sign, at-most-not-more, abs-of-negative}
+use Rattle.word.specs.Words.{pick, wordLimit, valueOf, wordOf, flag, sum, difference, product, quotient, shiftRight, update, condition}
 
 -- Words and values.
 
@@ -41,6 +42,92 @@ value-below-zero x h p = rw (le-ltb x 2147483648 p, le-ltb wordLimit (suc (42949
 
 pub one-value : (x y : ℕ) → x < wordLimit → y < wordLimit → valueOf x ≡ valueOf y → x ≡ y
 one-value x y hx hy e = sym (word-of-value x hx) ∙ ap wordOf e ∙ word-of-value y hy
+
+-- Sums, differences, products: what is in range comes out.
+
+from-word : (z : ℤ) (w : ℕ) → mag z < 2147483648 → wordOf z ≡ w → valueOf w ≡ z
+from-word z w h e = sym (ap valueOf e) ∙ value-of-word z h
+
+-- The word of a - b.
+word-of-less : (a b w : ℕ) → (a < b → wordOf (negsuc (b - suc a)) ≡ w) → (b ≤ a → a - b ≡ w) → wordOf (subℕ a b) ≡ w
+word-of-less a b w f g = by (ltb a b) refl
+  where
+    by : (t : Bool) → ltb a b ≡ t → wordOf (subℕ a b) ≡ w
+    by true e = rw e (f (ltb-true a b e))
+    by false e = rw e (g (ltb-false a b e))
+
+pub sum-in-range :
+    (x y : ℕ) → x < wordLimit → y < wordLimit → mag (valueOf x +ℤ valueOf y) < 2147483648 → valueOf (update 0 x y) ≡ valueOf x +ℤ valueOf y
+unfolding update
+sum-in-range x y hx hy r = from-word (valueOf x +ℤ valueOf y) (sum x y) r (all r)
+  where
+    all : mag (valueOf x +ℤ valueOf y) < 2147483648 → wordOf (valueOf x +ℤ valueOf y) ≡ sum x y
+    all =
+        by-sign (λ a. mag (a +ℤ valueOf y) < 2147483648 → wordOf (a +ℤ valueOf y) ≡ sum x y) x
+        (λ p. by-sign (λ b. mag (pos x +ℤ b) < 2147483648 → wordOf (pos x +ℤ b) ≡ sum x y) y
+        (λ q h. omega arith)
+        (λ q h. word-of-less x (suc (4294967295 - y)) (sum x y) (λ l. omega arith) (λ l. omega arith)))
+        (λ p. by-sign (λ b. mag (negsuc (4294967295 - x) +ℤ b) < 2147483648 → wordOf (negsuc (4294967295 - x) +ℤ b) ≡ sum x y) y
+        (λ q h. word-of-less y (suc (4294967295 - x)) (sum x y) (λ l. omega arith) (λ l. omega arith))
+        (λ q h. omega arith))
+
+-- What holds of 0 where n is 0, and of -(k + 1) where n is k + 1, holds of -n.
+by-negative {ℓ} : (P : ℤ → Type ℓ) (n : ℕ) → (n ≡ 0 → P (pos 0)) → ((k : ℕ) → n ≡ suc k → P (negsuc k)) → P (negℤ (pos n))
+by-negative P zero f g = f refl
+by-negative P (suc k) f g = g k refl
+
+pub difference-in-range :
+    (x y : ℕ) → x < wordLimit → y < wordLimit → mag (valueOf x -ℤ valueOf y) < 2147483648 → valueOf (update 1 x y) ≡ valueOf x -ℤ valueOf y
+unfolding update
+difference-in-range x y hx hy r = from-word (valueOf x -ℤ valueOf y) (difference x y) r (all r)
+  where
+    all : mag (valueOf x -ℤ valueOf y) < 2147483648 → wordOf (valueOf x -ℤ valueOf y) ≡ difference x y
+    all =
+        by-sign (λ a. mag (a -ℤ valueOf y) < 2147483648 → wordOf (a -ℤ valueOf y) ≡ difference x y) x
+        (λ p. by-sign (λ b. mag (pos x -ℤ b) < 2147483648 → wordOf (pos x -ℤ b) ≡ difference x y) y
+        (λ q. by-negative (λ c. mag (pos x +ℤ c) < 2147483648 → wordOf (pos x +ℤ c) ≡ difference x y) y
+        (λ e h. omega arith)
+        (λ k e h. word-of-less x (suc k) (difference x y) (λ l. omega arith) (λ l. omega arith)))
+        (λ q h. omega arith))
+        (λ p. by-sign (λ b. mag (negsuc (4294967295 - x) -ℤ b) < 2147483648 → wordOf (negsuc (4294967295 - x) -ℤ b) ≡ difference x y) y
+        (λ q. by-negative (λ c. mag (negsuc (4294967295 - x) +ℤ c) < 2147483648 → wordOf (negsuc (4294967295 - x) +ℤ c) ≡ difference x y) y
+        (λ e h. word-of-less 0 (suc (4294967295 - x)) (difference x y) (λ l. omega arith) (λ l. omega arith))
+        (λ k e h. omega arith))
+        (λ q h. word-of-less (suc (4294967295 - y)) (suc (4294967295 - x)) (difference x y) (λ l. omega arith) (λ l. omega arith)))
+
+-- A word and what it is short of 2^32, each times the same number.
+short-times : (x k : ℕ) → x < wordLimit → x * k + suc (4294967295 - x) * k ≡ k * 4294967296
+short-times x k h =
+    let e : x + suc (4294967295 - x) ≡ 4294967296 = omega arith in
+    sym (add-mul x (suc (4294967295 - x)) k) ∙ ap (λ (n : ℕ). n * k) e ∙ mul-comm 4294967296 k
+
+times-short : (x y : ℕ) → y < wordLimit → x * y + x * suc (4294967295 - y) ≡ x * 4294967296
+times-short x y h =
+    let e : y + suc (4294967295 - y) ≡ 4294967296 = omega arith in
+    sym (mul-add x y (suc (4294967295 - y))) ∙ ap (λ (n : ℕ). x * n) e
+
+-- What is short of a multiple of 2^32 by q.
+word-short : (p q x w : ℕ) → p + q ≡ x * 4294967296 → p % 4294967296 ≡ w → mag (negℤ (pos q)) < 2147483648 → wordOf (negℤ (pos q)) ≡ w
+word-short p q x w e f =
+    by-negative (λ c. mag c < 2147483648 → wordOf c ≡ w) q (λ z h. omega arith) (λ k z h. omega arith)
+
+pub product-in-range :
+    (x y : ℕ) → x < wordLimit → y < wordLimit → mag (valueOf x *ℤ valueOf y) < 2147483648 → valueOf (update 2 x y) ≡ valueOf x *ℤ valueOf y
+unfolding update
+product-in-range x y hx hy r = from-word (valueOf x *ℤ valueOf y) (product x y) r (all r)
+  where
+    all : mag (valueOf x *ℤ valueOf y) < 2147483648 → wordOf (valueOf x *ℤ valueOf y) ≡ product x y
+    all =
+        by-sign (λ a. mag (a *ℤ valueOf y) < 2147483648 → wordOf (a *ℤ valueOf y) ≡ product x y) x
+        (λ p. by-sign (λ b. mag (pos x *ℤ b) < 2147483648 → wordOf (pos x *ℤ b) ≡ product x y) y
+        (λ q h. omega arith)
+        (λ q. word-short (x * y) (x * suc (4294967295 - y)) x (product x y) (times-short x y hy) refl))
+        (λ p. by-sign (λ b. mag (negsuc (4294967295 - x) *ℤ b) < 2147483648 → wordOf (negsuc (4294967295 - x) *ℤ b) ≡ product x y) y
+        (λ q. word-short (x * y) (suc (4294967295 - x) * y) y (product x y) (short-times x y hx) refl)
+        (λ q h.
+        let e = times-short x y hy in
+        let f = short-times x (suc (4294967295 - y)) hx in
+        omega arith))
 
 -- Conditions.
 
@@ -106,10 +193,6 @@ unequal-by-value x y hx hy = (λ e. ap valueOf (same e), λ e. rw (eq-eqb x y (o
 
 -- Quotients.
 
-abs-of-negative : (n : ℕ) → natAbs (negℤ (pos n)) ≡ n
-abs-of-negative zero = refl
-abs-of-negative (suc n) = refl
-
 negative-times : (q b : ℕ) → negℤ (pos q) *ℤ pos b ≡ negℤ (pos (q * b))
 negative-times zero b = let e : 0 * b ≡ 0 = omega arith in rw e
 negative-times (suc q) b = refl
@@ -157,7 +240,7 @@ quotient-in-range : (a b : ℤ) → mag a < 2147483648 → ((a ≡ negsuc 214748
 quotient-in-range (pos a) (pos b) h n = let q = div-le-self a b in omega arith
 quotient-in-range (pos a) (negsuc b) h n = let q = div-le-self a (suc b) in mag-of-negative (a / suc b) (omega arith)
 quotient-in-range (negsuc a) (pos b) h n = let q = div-le-self (suc a) b in mag-of-negative (suc a / b) (omega arith)
-quotient-in-range (negsuc a) (negsuc zero) h n = let q = div-le-self (suc a) 1 in by (ltb a 2147483647) refl
+quotient-in-range (negsuc a) (negsuc zero) h n = by (ltb a 2147483647) refl
   where
     by : (t : Bool) → ltb a 2147483647 ≡ t → suc a / 1 < 2147483648
     by true e = let k = ltb-true a 2147483647 e in let q = div-le-self (suc a) 1 in omega arith
@@ -184,6 +267,10 @@ quotient-toward-zero x y hx hy n w = (
 
     found : valueOf (quotient x y) ≡ quotZ (valueOf x) (valueOf y)
     found = rw (ne-eqb y 0 n) (value-of-word (quotZ (valueOf x) (valueOf y)) (quotient-in-range (valueOf x) (valueOf y) (value-in-range x hx) wrap))
+
+pub quotient-by-zero : (x : ℕ) → update 3 x 0 ≡ 0
+unfolding update
+quotient-by-zero x = refl
 
 pub least-by-minus-one : update 3 2147483648 4294967295 ≡ 2147483648
 unfolding update

@@ -100,7 +100,7 @@ fn shift_down(x: u32, places: u32) -> u32
     x >> places
 }
 
-// The zeros of a negative word's complement are its ones.
+// A negative word is turned over, shifted, and turned back: the zeros that came in are ones then.
 fn shift_right(x: u32, places: u32) -> u32
     ensures answer { λ r. ⌜ r ≡ shiftRight x places ⌝ }
 {
