@@ -6,6 +6,9 @@ use lib.Seq.{length-take-le}
 use Rattle.graph_rehearsed.proofs.rehearse_named.Statement.{statement}
 use Rattle.graph_rehearsed.proofs.rehearse_named.Tie as tie
 
+add-part : tie.Need-add-part
+add-part c = search needs
+
 part-requires : tie.Need-part-requires
 part-requires c κs = search needs
 
@@ -14,6 +17,9 @@ slice-aggregate-words c = search needs
 
 words-requires : tie.Need-words-requires
 words-requires c κs = search needs
+
+add-part-2 : tie.Need-add-part-2
+add-part-2 c = search needs
 
 part-requires-2 : tie.Need-part-requires-2
 part-requires-2 c κs = search needs
@@ -49,9 +55,11 @@ pub rehearse-named-spec : {M : Type 1} → statement M
 rehearse-named-spec =
     tie.close
     (tie.spec
+    add-part
     part-requires
     slice-aggregate-words
     words-requires
+    add-part-2
     part-requires-2
     slice-aggregate-words-2
     words-requires-2

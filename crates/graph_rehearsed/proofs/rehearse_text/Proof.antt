@@ -15,6 +15,9 @@ slice-aggregate-words c = search needs
 words-requires : tie.Need-words-requires
 words-requires c κs = search needs
 
+add-part : tie.Need-add-part
+add-part c = search needs
+
 part-requires-2 : tie.Need-part-requires-2
 part-requires-2 c κs = search needs
 
@@ -23,6 +26,9 @@ slice-aggregate-words-2 c = search needs
 
 words-requires-2 : tie.Need-words-requires-2
 words-requires-2 c κs = search needs
+
+add-part-2 : tie.Need-add-part-2
+add-part-2 c = search needs
 
 part-requires-3 : tie.Need-part-requires-3
 part-requires-3 c κs = search needs
@@ -64,9 +70,11 @@ rehearse-text-spec =
     part-requires
     slice-aggregate-words
     words-requires
+    add-part
     part-requires-2
     slice-aggregate-words-2
     words-requires-2
+    add-part-2
     part-requires-3
     slice-aggregate-words-3
     words-requires-3
