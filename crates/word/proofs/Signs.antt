@@ -11,7 +11,7 @@ use borrow.Author.Tests.{ne-eqb, lt-ltb, le-ltb, le-leb, lt-leb, ltb-true, ltb-f
 use lib.Dec.{T, ltb, leb}
 use lib.IntN.{ℤ, pos, negsuc, negℤ, natAbs}
 use lib.Signed.{ltZ, leZ, nonNeg, quotZ, shrZ}
-use Rattle.word.specs.Laws.{by-sign, le-not-lt, at-most-not-more}
+use Rattle.word.specs.Laws.{by-sign, by-signs, le-not-lt, at-most-not-more}
 use Rattle.word.specs.Words.{wordLimit, valueOf, wordOf, sum, quotient}
 
 -- Two tests agree where each answer of the first forces that of the second.
@@ -28,13 +28,11 @@ turned x = sum x 2147483648
 
 below-turned : (x y : ℕ) → x < wordLimit → y < wordLimit → ltb (turned x) (turned y) ≡ ltZ (valueOf x) (valueOf y)
 below-turned x y hx hy =
-    by-sign (λ a. ltb (turned x) (turned y) ≡ ltZ a (valueOf y)) x
-    (λ p. by-sign (λ b. ltb (turned x) (turned y) ≡ ltZ (pos x) b) y
-    (λ q. same-lt (turned x) (turned y) x y (λ h. omega arith) (λ h. omega arith))
-    (λ q. le-ltb (turned x) (turned y) (omega arith)))
-    (λ p. by-sign (λ b. ltb (turned x) (turned y) ≡ ltZ (negsuc (4294967295 - x)) b) y
-    (λ q. lt-ltb (turned x) (turned y) (omega arith))
-    (λ q. same-lt (turned x) (turned y) (4294967295 - y) (4294967295 - x) (λ h. omega arith) (λ h. omega arith)))
+    by-signs (λ a b. ltb (turned x) (turned y) ≡ ltZ a b) x y
+    (λ p q. same-lt (turned x) (turned y) x y (λ h. omega arith) (λ h. omega arith))
+    (λ p q. le-ltb (turned x) (turned y) (omega arith))
+    (λ p q. lt-ltb (turned x) (turned y) (omega arith))
+    (λ p q. same-lt (turned x) (turned y) (4294967295 - y) (4294967295 - x) (λ h. omega arith) (λ h. omega arith))
 
 -- The same of what the code has turned.
 module _ (x y : ℕ) (hx : x < wordLimit) (hy : y < wordLimit) {a b : ℕ} (ha : a ≡ turned x) (hb : b ≡ turned y) where

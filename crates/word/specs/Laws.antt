@@ -1,6 +1,6 @@
 -- What crates above may know of words: which answers are flags, which are words, what a code beyond its list gives,
 -- and that the operators from code 3 on are the conditions. Crates above cite these laws and leave the definitions shut; what holds of the values is
--- in `Values`. `by-sign`, `at-most-not-more` and `abs-of-negative`, of integers, serve both and the proofs of the code.
+-- in `Values`. `by-sign`, `by-signs`, `at-most-not-more` and `abs-of-negative`, of integers, serve both and the proofs of the code.
 -- Main results: `condition-flag`, `update-word`, `operate-word`, `operate-flag`, `operate-condition`, and
 -- `condition-beyond`, `update-beyond`, `operate-beyond`.
 -- Assumes nothing.
@@ -36,6 +36,18 @@ by-sign P x f g = by (ltb x 2147483648) refl
     by : (t : Bool) → ltb x 2147483648 ≡ t → P (pick t (pos x) (negsuc (4294967295 - x)))
     by true e = f (ltb-true x 2147483648 e)
     by false e = g (ltb-false x 2147483648 e)
+
+-- The same of two words.
+pub by-signs {ℓ} : (P : ℤ → ℤ → Type ℓ) (x y : ℕ)
+    → (x < 2147483648 → y < 2147483648 → P (pos x) (pos y))
+    → (x < 2147483648 → 2147483648 ≤ y → P (pos x) (negsuc (4294967295 - y)))
+    → (2147483648 ≤ x → y < 2147483648 → P (negsuc (4294967295 - x)) (pos y))
+    → (2147483648 ≤ x → 2147483648 ≤ y → P (negsuc (4294967295 - x)) (negsuc (4294967295 - y)))
+    → P (valueOf x) (valueOf y)
+by-signs P x y f g h k =
+    by-sign (λ a. P a (valueOf y)) x
+    (λ p. by-sign (λ b. P (pos x) b) y (f p) (g p))
+    (λ p. by-sign (λ b. P (negsuc (4294967295 - x)) b) y (h p) (k p))
 
 -- The two orders: at most is not more.
 pub le-not-lt : (a b : ℕ) → leb a b ≡ not (ltb b a)

@@ -19,7 +19,7 @@ use lib.Dec.{T, ltb, eqb}
 use lib.Pow.{pow-pos, pow-mono}
 use lib.IntN.{ℤ, pos, negsuc, negℤ, natAbs, subℕ, _+ℤ_, _-ℤ_, _*ℤ_, negℤ-+ℤ}
 use lib.Signed.{mag, mag-shr, nonNeg, ltZ, quotZ, remZ, shrZ}
-use Rattle.word.specs.Laws.{by-sign, at-most-not-more, abs-of-negative}
+use Rattle.word.specs.Laws.{by-sign, by-signs, at-most-not-more, abs-of-negative}
 use Rattle.word.specs.Words.{pick, wordLimit, valueOf, wordOf, flag, sum, difference, product, quotient, shiftRight, update, condition}
 
 -- Words and values.
@@ -59,17 +59,13 @@ word-of-less a b w f g = by (ltb a b) refl
 pub sum-in-range :
     (x y : ℕ) → x < wordLimit → y < wordLimit → mag (valueOf x +ℤ valueOf y) < 2147483648 → valueOf (update 0 x y) ≡ valueOf x +ℤ valueOf y
 unfolding update
-sum-in-range x y hx hy r = from-word (valueOf x +ℤ valueOf y) (sum x y) r (all r)
-  where
-    all : mag (valueOf x +ℤ valueOf y) < 2147483648 → wordOf (valueOf x +ℤ valueOf y) ≡ sum x y
-    all =
-        by-sign (λ a. mag (a +ℤ valueOf y) < 2147483648 → wordOf (a +ℤ valueOf y) ≡ sum x y) x
-        (λ p. by-sign (λ b. mag (pos x +ℤ b) < 2147483648 → wordOf (pos x +ℤ b) ≡ sum x y) y
-        (λ q h. omega arith)
-        (λ q h. word-of-less x (suc (4294967295 - y)) (sum x y) (λ l. omega arith) (λ l. omega arith)))
-        (λ p. by-sign (λ b. mag (negsuc (4294967295 - x) +ℤ b) < 2147483648 → wordOf (negsuc (4294967295 - x) +ℤ b) ≡ sum x y) y
-        (λ q h. word-of-less y (suc (4294967295 - x)) (sum x y) (λ l. omega arith) (λ l. omega arith))
-        (λ q h. omega arith))
+sum-in-range x y hx hy r =
+    from-word (valueOf x +ℤ valueOf y) (sum x y) r
+    (by-signs (λ a b. mag (a +ℤ b) < 2147483648 → wordOf (a +ℤ b) ≡ sum x y) x y
+    (λ p q h. omega arith)
+    (λ p q h. word-of-less x (suc (4294967295 - y)) (sum x y) (λ l. omega arith) (λ l. omega arith))
+    (λ p q h. word-of-less y (suc (4294967295 - x)) (sum x y) (λ l. omega arith) (λ l. omega arith))
+    (λ p q h. omega arith) r)
 
 -- What holds of 0 where n is 0, and of -(k + 1) where n is k + 1, holds of -n.
 by-negative {ℓ} : (P : ℤ → Type ℓ) (n : ℕ) → (n ≡ 0 → P (pos 0)) → ((k : ℕ) → n ≡ suc k → P (negsuc k)) → P (negℤ (pos n))
@@ -79,21 +75,17 @@ by-negative P (suc k) f g = g k refl
 pub difference-in-range :
     (x y : ℕ) → x < wordLimit → y < wordLimit → mag (valueOf x -ℤ valueOf y) < 2147483648 → valueOf (update 1 x y) ≡ valueOf x -ℤ valueOf y
 unfolding update
-difference-in-range x y hx hy r = from-word (valueOf x -ℤ valueOf y) (difference x y) r (all r)
-  where
-    all : mag (valueOf x -ℤ valueOf y) < 2147483648 → wordOf (valueOf x -ℤ valueOf y) ≡ difference x y
-    all =
-        by-sign (λ a. mag (a -ℤ valueOf y) < 2147483648 → wordOf (a -ℤ valueOf y) ≡ difference x y) x
-        (λ p. by-sign (λ b. mag (pos x -ℤ b) < 2147483648 → wordOf (pos x -ℤ b) ≡ difference x y) y
-        (λ q. by-negative (λ c. mag (pos x +ℤ c) < 2147483648 → wordOf (pos x +ℤ c) ≡ difference x y) y
-        (λ e h. omega arith)
-        (λ k e h. word-of-less x (suc k) (difference x y) (λ l. omega arith) (λ l. omega arith)))
-        (λ q h. omega arith))
-        (λ p. by-sign (λ b. mag (negsuc (4294967295 - x) -ℤ b) < 2147483648 → wordOf (negsuc (4294967295 - x) -ℤ b) ≡ difference x y) y
-        (λ q. by-negative (λ c. mag (negsuc (4294967295 - x) +ℤ c) < 2147483648 → wordOf (negsuc (4294967295 - x) +ℤ c) ≡ difference x y) y
-        (λ e h. word-of-less 0 (suc (4294967295 - x)) (difference x y) (λ l. omega arith) (λ l. omega arith))
-        (λ k e h. omega arith))
-        (λ q h. word-of-less (suc (4294967295 - y)) (suc (4294967295 - x)) (difference x y) (λ l. omega arith) (λ l. omega arith)))
+difference-in-range x y hx hy r =
+    from-word (valueOf x -ℤ valueOf y) (difference x y) r
+    (by-signs (λ a b. mag (a -ℤ b) < 2147483648 → wordOf (a -ℤ b) ≡ difference x y) x y
+    (λ p q. by-negative (λ c. mag (pos x +ℤ c) < 2147483648 → wordOf (pos x +ℤ c) ≡ difference x y) y
+    (λ e h. omega arith)
+    (λ k e h. word-of-less x (suc k) (difference x y) (λ l. omega arith) (λ l. omega arith)))
+    (λ p q h. omega arith)
+    (λ p q. by-negative (λ c. mag (negsuc (4294967295 - x) +ℤ c) < 2147483648 → wordOf (negsuc (4294967295 - x) +ℤ c) ≡ difference x y) y
+    (λ e h. word-of-less 0 (suc (4294967295 - x)) (difference x y) (λ l. omega arith) (λ l. omega arith))
+    (λ k e h. omega arith))
+    (λ p q h. word-of-less (suc (4294967295 - y)) (suc (4294967295 - x)) (difference x y) (λ l. omega arith) (λ l. omega arith)) r)
 
 -- A word and what it is short of 2^32, each times the same number.
 short-times : (x k : ℕ) → x < wordLimit → x * k + suc (4294967295 - x) * k ≡ k * 4294967296
@@ -114,20 +106,13 @@ word-short p q x w e f =
 pub product-in-range :
     (x y : ℕ) → x < wordLimit → y < wordLimit → mag (valueOf x *ℤ valueOf y) < 2147483648 → valueOf (update 2 x y) ≡ valueOf x *ℤ valueOf y
 unfolding update
-product-in-range x y hx hy r = from-word (valueOf x *ℤ valueOf y) (product x y) r (all r)
-  where
-    all : mag (valueOf x *ℤ valueOf y) < 2147483648 → wordOf (valueOf x *ℤ valueOf y) ≡ product x y
-    all =
-        by-sign (λ a. mag (a *ℤ valueOf y) < 2147483648 → wordOf (a *ℤ valueOf y) ≡ product x y) x
-        (λ p. by-sign (λ b. mag (pos x *ℤ b) < 2147483648 → wordOf (pos x *ℤ b) ≡ product x y) y
-        (λ q h. omega arith)
-        (λ q. word-short (x * y) (x * suc (4294967295 - y)) x (product x y) (times-short x y hy) refl))
-        (λ p. by-sign (λ b. mag (negsuc (4294967295 - x) *ℤ b) < 2147483648 → wordOf (negsuc (4294967295 - x) *ℤ b) ≡ product x y) y
-        (λ q. word-short (x * y) (suc (4294967295 - x) * y) y (product x y) (short-times x y hx) refl)
-        (λ q h.
-        let e = times-short x y hy in
-        let f = short-times x (suc (4294967295 - y)) hx in
-        omega arith))
+product-in-range x y hx hy r =
+    from-word (valueOf x *ℤ valueOf y) (product x y) r
+    (by-signs (λ a b. mag (a *ℤ b) < 2147483648 → wordOf (a *ℤ b) ≡ product x y) x y
+    (λ p q h. omega arith)
+    (λ p q. word-short (x * y) (x * suc (4294967295 - y)) x (product x y) (times-short x y hy) refl)
+    (λ p q. word-short (x * y) (suc (4294967295 - x) * y) y (product x y) (short-times x y hx) refl)
+    (λ p q h. let e = times-short x y hy in let f = short-times x (suc (4294967295 - y)) hx in omega arith) r)
 
 -- Conditions.
 
