@@ -1,6 +1,8 @@
 // What a command is asked: its arguments, read one by one. The table is the first that is no option; the others are input words, kept in lent words.
 // The arguments of a command stand in one text, each with a byte 0 behind it, which no argument can hold: so a command is the same whether it comes
 // from the system or from a file of cases. Argument 0 is the command's name.
+#![tactic(auto)]
+
 ghost use Rattle.std.specs.Prelude.{◌≤◌, ◌<◌, length};
 
 // Argument k, counted from 0; past the last, nothing.
@@ -61,7 +63,7 @@ pub const USUAL: u64 = 1000000000;
 // `table` and `order` are numbers of arguments, 0 where none names the file; `run` says that a run was asked for by an input or an option,
 // `steered` that an option was given which a run alone takes, and `turned` that --turns was. `signed` says that words are to be told with a sign.
 // `problem` is the first that is wrong, and `at` its argument.
-#[derive(Drop)]
+#[derive(Clone, Copy)]
 pub struct Asked {
     pub table: usize,
     pub order: usize,

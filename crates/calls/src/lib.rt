@@ -1,5 +1,7 @@
 // Calls as lines: a name, numbers in decimal, lists with semicolons between. One line is one call and has one line for its answer.
 // `answer` works on lent memory alone; `serve` reads lines from a descriptor and writes their answers to another.
+#![tactic(auto)]
+
 ghost use Rattle.std.specs.Prelude.{◌≤◌, ◌<◌, length};
 
 use engine::Plain;
@@ -338,7 +340,7 @@ fn check_table_line(rest: &[u8], table: &mut [u32], out: &mut [u8]) -> usize
 }
 
 // A number of words or bytes to be lent, at most so many, and a list behind it.
-#[derive(Drop)]
+#[derive(Clone, Copy)]
 struct Lent {
     lent: usize,
     count: usize,
@@ -532,7 +534,7 @@ fn spaces_end(text: &[u8]) -> usize
 }
 
 // An allowance and a number of words to be lent, at most so many, and what is wrong with them first.
-#[derive(Drop)]
+#[derive(Clone, Copy)]
 struct Allowed {
     allowance: u64,
     lent: usize,
@@ -651,7 +653,7 @@ pub fn answer(line: &[u8], out: &mut [u8]) -> usize
 // Lines from a descriptor.
 
 // The letters of a line so far, and whether there were too many.
-#[derive(Drop)]
+#[derive(Clone, Copy)]
 struct Line {
     count: usize,
     long: bool,
@@ -740,7 +742,7 @@ fn read_some(from: i32, chunk: &mut [u8]) -> usize
 }
 
 // A turn reads once and answers the lines that end there.
-#[derive(Drop)]
+#[derive(Clone, Copy)]
 struct Read {
     line: Line,
     ended: bool,

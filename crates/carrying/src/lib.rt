@@ -1,4 +1,6 @@
 // Lowering on lent words: what the entries keep of a table that has passed refusals 1 to 9.
+#![tactic(auto)]
+
 ghost use Rattle.std.specs.Prelude.{◌≡◌, ℕ, ◌+◌, ◌*◌, ◌<◌, ◌≤◌, eqb, leb, length, get_or};
 ghost use Rattle.word.specs.Words.{flag};
 ghost use Rattle.table.specs.Rows.{kind_at, size};
@@ -201,7 +203,7 @@ fn wires_of(table: &[u32], counts: &[u32; 512], r: u32) -> u32
 }
 
 // How many nodes and wires there are before forks.
-#[derive(Drop)]
+#[derive(Clone, Copy)]
 pub struct Plain {
     pub nodes: u32,
     pub wires: u32,

@@ -1,5 +1,7 @@
 // The commands of rehearse on argument texts and two descriptors: answers go to `out`, refusals and complaints to `err`.
 // The last line of `out` is `refused` where a rule refused, `error` where a command, an argument or a file was wrong, and neither where all went well.
+#![tactic(auto)]
+
 ghost use Rattle.std.specs.Prelude.{◌+◌, ◌*◌, ◌≤◌, ◌<◌, length};
 
 use arguments::Asked;
@@ -33,7 +35,7 @@ const ROOM: u32 = 10;
 const ANY_LINE: u64 = 18446744073709551615;
 
 // What is to be done, and where it is told.
-#[derive(Drop)]
+#[derive(Clone, Copy)]
 struct Job {
     command: u32,
     out: i32,

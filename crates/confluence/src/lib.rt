@@ -1,1 +1,3 @@
 // Theorems alone: nothing here is run.
+#![tactic(auto)]
+

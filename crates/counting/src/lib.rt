@@ -1,4 +1,6 @@
 // How large a table's graph is, whatever its size: from the rows, with no table of its nodes or wires.
+#![tactic(auto)]
+
 ghost use Rattle.std.specs.Prelude.{◌≡◌, not, ◌+◌, ◌*◌, ◌<◌, ◌≤◌, length};
 ghost use Rattle.word.specs.Words.{flag};
 ghost use Rattle.graph.specs.Below.{total};
@@ -130,7 +132,7 @@ fn idle_of(
     own
 }
 
-#[derive(Drop)]
+#[derive(Clone, Copy)]
 struct Sums {
     uses: u32,
     idle: u32,
@@ -159,7 +161,7 @@ fn sum_rows(
 }
 
 // How many nodes, wires, starts and results a table's graph has.
-#[derive(Drop)]
+#[derive(Clone, Copy)]
 pub struct Counts {
     pub nodes: u32,
     pub wires: u32,

@@ -3,6 +3,8 @@
 // the wire. A token that stands on a wire is written behind the wire's number. A node that has a name shows it in a second line.
 // Tokens and constants are words of the run: `signed` writes them with a sign.
 // Nothing is asked of the words: what is not there reads as 0, and so does a count past 8,192.
+#![tactic(auto)]
+
 ghost use Rattle.std.specs.Prelude.{◌≡◌, ◌≤◌, ◌<◌, ◌+◌, ◌*◌, length};
 
 const MOST: u32 = 8192;

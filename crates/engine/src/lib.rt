@@ -1,4 +1,6 @@
 // The reading of a table without its graph.
+#![tactic(auto)]
+
 ghost use Rattle.std.specs.Prelude.{◌≡◌, ◌≤◌, length};
 ghost use Rattle.table.specs.Rows.{size};
 ghost use Rattle.table.specs.Counted.{rows_of};
@@ -14,7 +16,7 @@ const ROOM: u32 = 10;
 const INPUTS: u32 = 16;
 
 // A refusal's number and row; ended, with the turns made; a zero step, with the FOR's row and the turns made; or spent, with the turns made.
-#[derive(Drop)]
+#[derive(Clone, Copy)]
 pub enum Plain {
     Refused(u32, u32),
     Ended(u64),

@@ -1,4 +1,6 @@
 // Files of words, and the two channels of a command: what it answers goes to one, what it has to complain of to the other.
+#![tactic(auto)]
+
 ghost use Rattle.std.specs.Prelude.{◌≤◌, length};
 
 // What a command comes to.
@@ -91,7 +93,7 @@ pub fn answer(out: i32, err: i32, text: &[u8]) -> u32 {
 }
 
 // What became of a file, DONE where it was read; its letters, and its words.
-#[derive(Drop)]
+#[derive(Clone, Copy)]
 pub struct Got {
     pub status: u32,
     pub letters: usize,

@@ -1,5 +1,7 @@
 // One firing of one node on lent words: the node's view is read from the state, and what the step does is stored back.
 // Callers have checked the graph, and the state's length.
+#![tactic(auto)]
+
 ghost use Rattle.std.specs.Prelude.{◌≡◌, Bool, true, false, not, ◌||◌, ℕ, ◌+◌, ◌*◌, ◌<◌, ◌≤◌, length, get_or, set};
 ghost use Rattle.std.proofs.Math.Option.{some, none};
 ghost use Rattle.word.specs.Words.{pick};
@@ -136,7 +138,7 @@ fn act(
 }
 
 // A node's row: the numbers of its wires, and how many places its kind has.
-#[derive(Drop)]
+#[derive(Clone, Copy)]
 pub struct Row {
     pub kind: u32,
     pub code: u32,

@@ -1,4 +1,6 @@
 // Forks and drains from rows of nodes whose inputs are the numbers of their sources: uses tallied, forks numbered, words written one after another.
+#![tactic(auto)]
+
 ghost use Rattle.std.specs.Prelude.{◌≡◌, [], ◌∷◌, ℕ, ◌+◌, ◌-◌, ◌*◌, ◌<◌, ◌≤◌, eqb, length, get_or};
 ghost use Rattle.std.proofs.lemmas.List.Edits.{sets};
 ghost use Rattle.word.specs.Words.{flag};
@@ -82,7 +84,7 @@ fn added_nodes(uses: u32) -> u32
 }
 
 // What all wires add.
-#[derive(Drop)]
+#[derive(Clone, Copy)]
 pub struct Added {
     pub nodes: u32,
     pub wires: u32,

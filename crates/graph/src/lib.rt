@@ -1,4 +1,6 @@
 // The check of a token graph, refusals 11 to 15, and the readers of its words.
+#![tactic(auto)]
+
 ghost use Rattle.std.specs.Prelude.{◌≡◌, true, ◌&&◌, ℕ, ◌+◌, ◌*◌, ◌<◌, ◌≤◌, eqb, ltb, length, get_or, set, [], ◌∷◌};
 ghost use Rattle.std.proofs.lemmas.List.Edits.{sets};
 ghost use Rattle.word.specs.Words.{pick, flag};
@@ -73,7 +75,7 @@ const FLAG: u32 = 1;
 const GIVEN: u32 = 2;
 
 // A row of the table of kinds: how many inputs, outputs, codes and sorts, then what stands on the places.
-#[derive(Drop)]
+#[derive(Clone, Copy)]
 struct Columns {
     inputs: u32,
     outputs: u32,

@@ -1,4 +1,6 @@
 // The entries on graphs and states, called as standard input lists them: the sum graph, and damaged words of every refusal from 11 to 18.
+#![tactic(auto)]
+
 use libc::STDOUT_FILENO;
 
 fn main() {

@@ -1,4 +1,6 @@
 // Lists and draws the graph whose words standard input gives; behind semicolons the state's words, and the names of nodes and wires.
+#![tactic(auto)]
+
 use libc::STDOUT_FILENO;
 
 fn draw(graph: &[u32], state: &[u32], nodes: &[u32], wires: &[u32]) {

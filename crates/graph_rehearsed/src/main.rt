@@ -1,5 +1,7 @@
 // Rehearses two graphs by sweeps, with an allowance of 1,000, first as they are and then with their firings told, and with an allowance of 30: the sum graph, and one that strands,
 // which no table gives; the second with signs. Standard input gives of each its words, the input words, the words of a state, and the names of its nodes and wires, semicolons between.
+#![tactic(auto)]
+
 ghost use Rattle.std.specs.Prelude.{◌≤◌};
 
 use libc::STDOUT_FILENO;

@@ -1,1 +1,3 @@
 // What lowering lays down is an accepted graph: theorems alone, in specs/.
+#![tactic(auto)]
+

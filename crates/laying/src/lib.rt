@@ -1,4 +1,6 @@
 // The nodes of a table that has passed refusals 1 to 9, before forks: counted first, then laid down in rows of seven words.
+#![tactic(auto)]
+
 ghost use Rattle.std.specs.Prelude.{◌≡◌, [], ◌∷◌, ◌+◌, ◌*◌, ◌<◌, ◌≤◌, length, get_or, set};
 ghost use Rattle.std.proofs.lemmas.List.Edits.{sets};
 ghost use Rattle.table.specs.Rows.{word, size};
@@ -519,7 +521,7 @@ fn lay_all(
 }
 
 // How many nodes and wires a table has before forks, and how many starts and results.
-#[derive(Drop)]
+#[derive(Clone, Copy)]
 pub struct Counts {
     pub nodes: u32,
     pub wires: u32,

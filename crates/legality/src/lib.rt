@@ -1,1 +1,3 @@
 // Theorems alone.
+#![tactic(auto)]
+

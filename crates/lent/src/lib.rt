@@ -1,5 +1,7 @@
 // One firing that changes the node's record in place: the record is lent, and what the firing does comes out. It calls the step by value, so
 // it does what `step::step` does and nothing else.
+#![tactic(auto)]
+
 ghost use Rattle.std.specs.Prelude.{◌≡◌};
 ghost use Rattle.step.specs.Machines.{step_of};
 ghost use Rattle.step.specs.Shown.{view_of, shown};
@@ -25,7 +27,7 @@ pub fn advance(own: &mut step::Record, kind: u32, code: u32, seen: step::Seen) -
 }
 
 // What a firing does, and the record after it.
-#[derive(Drop)]
+#[derive(Clone, Copy)]
 pub struct After {
     pub firing: step::Firing,
     pub own: step::Record,

@@ -1,5 +1,7 @@
 // A graph as a list for people and programs: the words of the header, the starts, the results and each node, a line each, and behind them, as comments, what they
 // say. Without its comments it is the graph's words.
+#![tactic(auto)]
+
 ghost use Rattle.std.specs.Prelude.{◌≤◌, ◌<◌, length};
 
 // `count` words from `from` on.
@@ -168,7 +170,7 @@ fn put_head(out: &mut [u8], at: usize, graph: &[u32], wires: &[u32]) -> usize
 // Writing. The list or the drawing of a large graph has more letters than the commands have memory, so it is written part by part, by the lent letters.
 
 // What is written of a graph: its words, or a drawing, with or without signs.
-#[derive(Drop)]
+#[derive(Clone, Copy)]
 struct Kind {
     drawing: bool,
     signed: bool,

@@ -1,1 +1,3 @@
 // Lowering: definitions and theorems alone, in specs/.
+#![tactic(auto)]
+

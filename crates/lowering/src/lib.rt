@@ -1,4 +1,6 @@
 // The entries for tables: their check, and lowering into lent words.
+#![tactic(auto)]
+
 ghost use Rattle.std.specs.Prelude.{◌≡◌, ◌≤◌, length};
 ghost use Rattle.std.proofs.lemmas.List.Edits.{sets};
 ghost use Rattle.table.specs.Check.{answer};
@@ -76,7 +78,7 @@ pub fn check_table(table: &[u32]) -> table::Checked
 }
 
 // What lower answers: 0, a row of 0 and how many words were written; or a refusal's number and row.
-#[derive(Drop)]
+#[derive(Clone, Copy)]
 pub struct Lowered {
     pub number: u32,
     pub row: u32,

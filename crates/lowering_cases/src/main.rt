@@ -1,4 +1,6 @@
 // The entries on tables, called as standard input lists them: the register's tables, every refusal from 1 to 10, the limits, and runs of lowered tables.
+#![tactic(auto)]
+
 use libc::STDOUT_FILENO;
 
 fn main() {

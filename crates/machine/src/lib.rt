@@ -1,4 +1,6 @@
 // Loading a graph and firing one node, on lent words that anybody may have typed, cut short or altered.
+#![tactic(auto)]
+
 ghost use Rattle.std.specs.Prelude.{◌≡◌, true, false, ℕ, ◌+◌, ◌*◌, ◌<◌, ◌≤◌, eqb, ltb, length, get_or};
 ghost use Rattle.word.specs.Words.{pick, flag};
 ghost use Rattle.step.specs.Kinds.{kind_of};
@@ -18,7 +20,7 @@ const STATE: u32 = 17;
 const ORDER: u32 = 18;
 
 // What one firing answers.
-#[derive(Drop)]
+#[derive(Clone, Copy)]
 pub enum Fired {
     Refused(u32),
     NotReady,

@@ -1,4 +1,6 @@
 // How large a table's graph is: its nodes laid down and its uses counted, before a word is written.
+#![tactic(auto)]
+
 ghost use Rattle.std.specs.Prelude.{◌≡◌, ◌&&◌, leb, length};
 ghost use Rattle.carrying.specs.Kept.{Passing};
 ghost use Rattle.forking.specs.Tallied.{Below};
@@ -10,7 +12,7 @@ const MOST_WIRES: u32 = 8192;
 
 // The counts of a table's graph, and whether they are in their limits: `plain` nodes and `sources`, their wires, before forks; `nodes` and
 // `wires` with them. Where those before forks are over a limit, forks are not counted.
-#[derive(Drop)]
+#[derive(Clone, Copy)]
 pub struct Sizes {
     pub plain: u32,
     pub sources: u32,

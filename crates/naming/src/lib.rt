@@ -1,4 +1,6 @@
 // The rows beside a graph: each node and each wire of a lowered table named by what it is for and by the rows behind it.
+#![tactic(auto)]
+
 ghost use Rattle.std.specs.Prelude.{◌≡◌, cond, [], ◌∷◌, ℕ, ◌+◌, ◌-◌, ◌*◌, ◌<◌, ◌≤◌, leb, length, get_or};
 ghost use Rattle.std.proofs.lemmas.List.Edits.{sets};
 ghost use Rattle.graph.specs.Below.{joined};
@@ -410,7 +412,7 @@ fn write_names(
 }
 
 // What naming answers: 0, a row of 0, and how many nodes and wires were named; or a refusal's number and row.
-#[derive(Drop)]
+#[derive(Clone, Copy)]
 pub struct Named {
     pub number: u32,
     pub row: u32,

@@ -1,6 +1,8 @@
 // Sentences with places for numbers. A mark and a digit stand for one of four values: `$0` for the first as a number, `~0` with commas between
 // thousands, `%0` for the name of the kind of row that it is, `@0` for that name with its article, `^0` for the name of the word of a row that it
 // is, and `&0` for an s where it is not 1.
+#![tactic(auto)]
+
 ghost use Rattle.std.specs.Prelude.{◌≤◌, ◌<◌, length};
 
 fn is_mark(b: u8) -> bool {

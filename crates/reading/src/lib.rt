@@ -1,1 +1,3 @@
 // The plain reading of a table is a definition: specs/ holds all of this crate.
+#![tactic(auto)]
+

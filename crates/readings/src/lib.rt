@@ -1,4 +1,6 @@
 // A reading of a table without its graph, told; and the run of the table's graph held to it.
+#![tactic(auto)]
+
 ghost use Rattle.std.specs.Prelude.{◌≤◌, length};
 
 use engine::Plain;
@@ -113,7 +115,7 @@ fn on_rows(number: u32) -> u32 {
 }
 
 // How many letters were put, and whether they tell a refusal.
-#[derive(Drop)]
+#[derive(Clone, Copy)]
 pub struct Told {
     pub count: usize,
     pub refused: bool,
@@ -430,7 +432,7 @@ fn put_advice(out: &mut [u8], at: usize) -> usize
 }
 
 // How many letters were put, and whether they tell that the run and the reading differ.
-#[derive(Drop)]
+#[derive(Clone, Copy)]
 pub struct Held {
     pub count: usize,
     pub differs: bool,

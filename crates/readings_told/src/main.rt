@@ -1,5 +1,7 @@
 // Tells ends of a run and of a reading held together, also such as no table gives. Standard input has five parts for each, a semicolon behind each part: the run's answer, and a 1 behind it for words with a sign; the reading's
 // answer, its row or rule, and its turns; the words of a graph; those of a state; the results of the reading.
+#![tactic(auto)]
+
 ghost use Rattle.std.specs.Prelude.{◌≤◌, ◌<◌};
 
 use engine::Plain;

@@ -1,4 +1,6 @@
 // A refusal of a table in people's words: the file and the row, the rule, the clause that is broken, what the row says and what the rule asks.
+#![tactic(auto)]
+
 ghost use Rattle.std.specs.Prelude.{◌≤◌, length};
 
 use table::Clause;

@@ -1,4 +1,6 @@
 // A rehearsal of a graph: loading, the run, and what people are told of them.
+#![tactic(auto)]
+
 ghost use Rattle.std.specs.Prelude.{◌≤◌, ◌+◌, length};
 
 use run::Ran;
@@ -64,7 +66,7 @@ fn put_numbers(out: &mut [u8], at: usize, number: u32, graph: &[u32], given: usi
 }
 
 // How many letters a rehearsal put, whether they tell a refusal, and else the number of the run's answer.
-#[derive(Drop)]
+#[derive(Clone, Copy)]
 pub struct Rehearsed {
     pub count: usize,
     pub refused: bool,

@@ -1,10 +1,12 @@
 // Rehearse: checks, lowers, runs and draws loop tables, and answers calls of the library. It hands its arguments to the commands, which are a library.
+#![tactic(auto)]
+
 ghost use Rattle.std.specs.Prelude.{◌≤◌, length};
 
 use libc::{STDERR_FILENO, STDOUT_FILENO};
 
 // The letters so far, and whether an argument was too long.
-#[derive(Drop)]
+#[derive(Clone, Copy)]
 struct Line {
     count: usize,
     long: bool,

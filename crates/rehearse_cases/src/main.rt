@@ -1,5 +1,7 @@
 // Runs the commands of rehearse that its standard input names, one a line, with both channels on standard output, each below its line.
 // Spaces stand between arguments. A line that starts with # is written as it is; an empty one is left out.
+#![tactic(auto)]
+
 ghost use Rattle.std.specs.Prelude.{◌≤◌, ◌<◌, length};
 
 use libc::STDOUT_FILENO;

@@ -1,12 +1,14 @@
 // Where the nodes and wires of a lowered table come from: the row of the table, and the role there, put beside their numbers.
 // A name is three words: node i's at 3i are its role, a row and the row that is copied, wire w's at 3w what it carries, a row and the row that is copied.
 // Where the names are too short, nothing is put.
+#![tactic(auto)]
+
 ghost use Rattle.std.specs.Prelude.{◌≤◌, length};
 
 // A node that is a FORK or a DRAIN of a wire has what the wire carries added to 16 or 32.
 const OF_WIRE: u32 = 16;
 
-#[derive(Drop)]
+#[derive(Clone, Copy)]
 struct Name {
     there: bool,
     what: u32,

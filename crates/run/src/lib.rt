@@ -1,4 +1,6 @@
 // A run: the caller's list once, then sweeps until one fires nothing, within an allowance; and what it answers.
+#![tactic(auto)]
+
 ghost use Rattle.std.specs.Prelude.{◌≡◌, true, false, not, ◌&&◌, ◌||◌, ℕ, ◌+◌, ◌*◌, ◌-◌, ◌<◌, ◌≤◌, ltb, length, get_or};
 ghost use Rattle.step.specs.Shown.{token_of};
 ghost use Rattle.graph.specs.Refusal.{graph_refusal};
@@ -12,7 +14,7 @@ ghost use Rattle.run.specs.Entry.{at, order_below, Runs, Below, idle, ran_by};
 const ORDER: u32 = 18;
 
 // What a run answers. Each case but a refusal has the firings made.
-#[derive(Drop)]
+#[derive(Clone, Copy)]
 pub enum Ran {
     Refused(u32),
     Spent(u64),

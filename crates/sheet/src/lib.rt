@@ -1,5 +1,7 @@
 // The parts of a sheet, written into lent bytes: what the writer writes, and what the reader holds its text against.
 // Each answers the place behind what it wrote.
+#![tactic(auto)]
+
 ghost use Rattle.std.specs.Prelude.{◌≡◌, ◌+◌, ◌≤◌, ◌++◌, length};
 ghost use Rattle.std.proofs.lemmas.List.Edits.{sets};
 ghost use Rattle.table.specs.Rows.{name_of};

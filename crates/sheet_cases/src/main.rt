@@ -1,5 +1,7 @@
 // Sheets read and written as standard input lists the calls: each way in which a line can break, at each key. Then the largest sheet, 512 rows of FOR with
 // words of ten digits, is written and read back.
+#![tactic(auto)]
+
 ghost use Rattle.std.specs.Prelude.{◌≤◌, length};
 
 use libc::STDOUT_FILENO;

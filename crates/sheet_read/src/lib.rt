@@ -1,5 +1,7 @@
 // READING A SHEET: `read_sheet`. Each other function reads one part of the text from a place on. Only the names of the kinds are tried more than
 // once at a place, so the time is linear in the text.
+#![tactic(auto)]
+
 ghost use Rattle.std.specs.Prelude.{◌≡◌, cond, ◌&&◌, ◌++◌, ◌+◌, ◌-◌, ◌*◌, ◌<◌, ◌≤◌, leb, length, drop, replicate};
 ghost use Rattle.std.proofs.lemmas.List.Edits.{sets};
 ghost use Rattle.table.specs.Rows.{name_of};
@@ -9,7 +11,7 @@ ghost use Rattle.sheet.specs.Answers.{ReadAnswer};
 ghost use Rattle.sheet_read.specs.Told.{Reads, Stores, worth, line_from};
 
 // 0 or the number of a refusal, the offset or the row count that goes with it, and how many words were written.
-#[derive(Drop)]
+#[derive(Clone, Copy)]
 pub struct Read {
     pub number: u32,
     pub place: usize,
@@ -25,7 +27,7 @@ const MOST_ROWS: u32 = 512;
 const MOST_WORD: u32 = 4294967295;
 
 // A value and the place behind its text, or the first place at which the text cannot go on.
-#[derive(Drop)]
+#[derive(Clone, Copy)]
 enum Took {
     Word(u32, usize),
     Bad(usize),

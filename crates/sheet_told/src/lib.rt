@@ -1,5 +1,7 @@
 // Why a text is no sheet, in people's words: line and column, what stands there, what could have stood there, and the rule.
 // What could have stood there is asked of the reader itself, byte by byte, so there is no second account of sheets here.
+#![tactic(auto)]
+
 ghost use Rattle.std.specs.Prelude.{◌≤◌, ◌<◌, length};
 
 const TEXT: u32 = 19;

@@ -1,5 +1,7 @@
 // The sheet of a table, written into lent bytes. `write_sheet` is the entry. The functions `put_..` write into bytes that have room and answer the place
 // behind what they wrote.
+#![tactic(auto)]
+
 ghost use Rattle.std.specs.Prelude.{◌≡◌, true, ◌+◌, ◌*◌, ◌<◌, ◌≤◌, length};
 ghost use Rattle.std.proofs.lemmas.List.Edits.{sets};
 ghost use Rattle.table.specs.Rows.{size};
@@ -16,14 +18,14 @@ const SPARE: u32 = 3;
 const ROOM: u32 = 10;
 
 // What was written, or why nothing was: a number and its row.
-#[derive(Drop)]
+#[derive(Clone, Copy)]
 pub struct Written {
     pub number: u32,
     pub row: u32,
     pub written: usize,
 }
 
-#[derive(Drop)]
+#[derive(Clone, Copy)]
 struct Refused {
     number: u32,
     row: u32,

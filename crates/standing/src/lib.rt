@@ -1,5 +1,7 @@
 // What a run has left on the wires and in the records: the tokens that stand, who waits for what, and the loops that are open.
 // Nodes and wires have their rows and roles beside them, by the names of `roles`. `signed` tells words with a sign.
+#![tactic(auto)]
+
 ghost use Rattle.std.specs.Prelude.{◌≤◌, ◌<◌, ◌+◌, length};
 
 // Tokens.

@@ -1,4 +1,6 @@
 // One firing of one node, by value: what the node sees and its record go in, what the firing does comes out.
+#![tactic(auto)]
+
 ghost use Rattle.std.specs.Prelude.{◌≡◌, ◌&&◌};
 ghost use Rattle.std.proofs.Math.Option.{some};
 ghost use Rattle.step.specs.Kinds.{STREAM, GATE, CARRY, INVARIANT, SPLIT, FORK, DRAIN, OP, PICK};
@@ -6,7 +8,7 @@ ghost use Rattle.step.specs.Machines.{program, step_of, in_phase, holding};
 ghost use Rattle.step.specs.Shown.{token_of, view_of, effect_of, shown, words_of, decided, decided_of, effect, ready, unless};
 
 // A node's phase and three registers.
-#[derive(Drop)]
+#[derive(Clone, Copy)]
 pub struct Record {
     pub phase: u32,
     pub r0: u32,
@@ -15,14 +17,14 @@ pub struct Record {
 }
 
 // What stands on a wire. The word counts only if the wire is full.
-#[derive(Drop)]
+#[derive(Clone, Copy)]
 pub struct Token {
     pub full: bool,
     pub word: u32,
 }
 
 // What a node sees: its three inputs, and whether each of its two outputs is there and empty.
-#[derive(Drop)]
+#[derive(Clone, Copy)]
 pub struct Seen {
     pub in0: Token,
     pub in1: Token,
@@ -32,7 +34,7 @@ pub struct Seen {
 }
 
 // Which inputs a firing takes.
-#[derive(Drop)]
+#[derive(Clone, Copy)]
 pub struct Takes {
     pub in0: bool,
     pub in1: bool,
@@ -40,7 +42,7 @@ pub struct Takes {
 }
 
 // What a firing does: the inputs taken, the tokens given, the record left.
-#[derive(Drop)]
+#[derive(Clone, Copy)]
 pub struct Act {
     pub takes: Takes,
     pub gives0: Token,
@@ -48,7 +50,7 @@ pub struct Act {
     pub next: Record,
 }
 
-#[derive(Drop)]
+#[derive(Clone, Copy)]
 pub enum Firing {
     NotReady,
     Fires(Act),

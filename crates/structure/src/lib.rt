@@ -1,1 +1,3 @@
 // The structure of tables that pass: theorems alone, in specs/.
+#![tactic(auto)]
+

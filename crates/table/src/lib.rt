@@ -1,5 +1,7 @@
 // The check of a loop table's rows: refusals 1 to 9, with the row and the clause that tell the fitter what to mend.
 // `tell_rows` and `check_rows` are the entries. The stack of open loops is eight entries of three words (its FOR row, its ARGs, its NEXTs), by value.
+#![tactic(auto)]
+
 ghost use Rattle.std.specs.Prelude.{◌≡◌, ◌+◌, ◌-◌, ◌*◌, ◌/◌, ◌%◌, ◌<◌, ◌≤◌, true, cond, eqb, ltb, [], ◌∷◌, length, get_or};
 ghost use Rattle.table.specs.Rows.{kind_at, word, size, in_use, named, coded, allows, fields_of, field_at, used_words, operand_count, first_operand, sort_of, wanted_sort};
 ghost use Rattle.table.specs.Said.{field_of, said};
@@ -110,7 +112,7 @@ const CONDITIONS: u32 = CODES + 5;
 const COMPARISONS: u32 = 3;
 
 // What the words a to e of a kind are.
-#[derive(Drop)]
+#[derive(Clone, Copy)]
 struct Fields {
     a: u32,
     b: u32,
@@ -686,7 +688,7 @@ fn end_right(table: &[u32], d: usize, n: u32) -> bool
 // What a check tells: a refusal's number and row, 0 and 0 where there is none, and which clause is broken. `word` is 0 for the kind, 1 to 5 for
 // a to e; `body` is the FOR row of the loop that matters, the row count where no loop is open, and 0 where no loop is told; `args` and `nexts` are
 // those of the innermost open loop for PLACE, DEPTH and OPEN, else 0.
-#[derive(Drop)]
+#[derive(Clone, Copy)]
 pub struct Clause {
     pub number: u32,
     pub row: u32,
@@ -849,7 +851,7 @@ pub fn tell_rows(table: &[u32]) -> Clause
 }
 
 // What a check answers: a refusal's number and row, or 0 and 0.
-#[derive(Drop)]
+#[derive(Clone, Copy)]
 pub struct Checked {
     pub number: u32,
     pub row: u32,

@@ -1,11 +1,13 @@
 // Checks the loop tables that standard input lists, and says of each the number and the row.
 // A line is a name, a colon and a table: six words to a row, a word a letter, 0 to 9 and then a for 10 and on to z for 35; spaces are passed over.
+#![tactic(auto)]
+
 ghost use Rattle.std.specs.Prelude.{◌≤◌, length};
 
 use libc::STDOUT_FILENO;
 
 // Where the reading of a line stands: the words so far, and whether the name is behind.
-#[derive(Drop)]
+#[derive(Clone, Copy)]
 struct Line {
     words: usize,
     named: bool,

@@ -1,4 +1,6 @@
 // Words as people type them: decimal numbers in a text, read into lent words, and put into a lent answer.
+#![tactic(auto)]
+
 ghost use Rattle.std.specs.Prelude.{◌≤◌, ◌<◌, length};
 
 // What can be wrong with a text; 0 is nothing.
@@ -24,7 +26,7 @@ pub const MOST_BELOW: u64 = 2147483648;
 const MOST_TENTH: u64 = 1844674407370955161;
 
 // Where the reading of words stands: those kept, the number that is being read, whether one is, and what was wrong first.
-#[derive(Drop)]
+#[derive(Clone, Copy)]
 pub struct Scan {
     pub count: usize,
     pub value: u64,
@@ -128,7 +130,7 @@ pub fn words(text: &[u8], out: &mut [u32]) -> Scan
 }
 
 // A single number of 64 bits: where its reading stands, before it, 0, in it, 1, or behind it, 2.
-#[derive(Drop)]
+#[derive(Clone, Copy)]
 pub struct Single {
     pub value: u64,
     pub place: u32,

@@ -1,5 +1,7 @@
 // What people are told: the names of kinds, rules and answers, and what a row says.
 // Names stand in one text, a part for each number, so that a name is found by one call.
+#![tactic(auto)]
+
 ghost use Rattle.std.specs.Prelude.{◌≤◌, length};
 
 // The name of a refusal number.

@@ -1,6 +1,8 @@
 // A run told as it goes: firing by firing, a line for each with what the node took and what it gave; or, where that is not asked, how many firings there were so far.
 // Nodes and wires have their rows and roles beside them, by the names of `roles`.
 // The turns are those of the run's rule: the list, then sweeps until one has fired nothing, within the allowance.
+#![tactic(auto)]
+
 ghost use Rattle.std.specs.Prelude.{◌≡◌, ◌≤◌, ◌<◌, length};
 ghost use Rattle.graph.specs.Graph.{node_count};
 ghost use Rattle.state.specs.Net.{net_of};
@@ -18,7 +20,7 @@ const ORDER: u32 = 18;
 const MANY: u64 = 100000000;
 
 // What is told of a run: each firing on `to`, or the firings so far on `err`; and whether words have a sign.
-#[derive(Drop)]
+#[derive(Clone, Copy)]
 pub struct How {
     pub trace: bool,
     pub signed: bool,

@@ -1,4 +1,6 @@
 // What a walk of the rows does to their words. They stand in 512 lent words, row r's at r. A table has passed refusals 1 to 9 here.
+#![tactic(auto)]
+
 ghost use Rattle.std.specs.Prelude.{◌≡◌, ℕ, ◌+◌, ◌-◌, ◌<◌, ◌≤◌, cond, eqb, length, get_or, set};
 ghost use Rattle.std.proofs.lemmas.List.Edits.{sets};
 ghost use Rattle.word.specs.Words.{condition, update, operate};

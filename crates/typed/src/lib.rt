@@ -1,6 +1,8 @@
 // A text of decimal words as people type it: its words, and the place of what is wrong with it.
 // Lines and columns are counted from 1 and a column is a letter of UTF-8; rows are counted from 0 and a row has the words kind and a to e.
 // White space stands between words, and # starts a comment that ends with its line. Word a of a CONST may have a sign.
+#![tactic(auto)]
+
 ghost use Rattle.std.specs.Prelude.{◌≤◌, ◌<◌, length};
 
 // What can be wrong; 0 is nothing.
@@ -24,7 +26,7 @@ pub const LOW: u32 = 5;
 const CONST: u32 = 1;
 
 // The words that were read, and what was wrong first, with the offset of its letter or of its word's first digit or sign.
-#[derive(Drop)]
+#[derive(Clone, Copy)]
 pub struct Typed {
     pub count: usize,
     pub problem: u32,
@@ -32,7 +34,7 @@ pub struct Typed {
 }
 
 // Where the reading stands: the words kept, the word that is being read, whether it has a sign and where it starts, and whether a comment is read.
-#[derive(Drop)]
+#[derive(Clone, Copy)]
 struct Scan {
     count: usize,
     value: u64,
@@ -247,7 +249,7 @@ fn starts(b: u8) -> bool {
 }
 
 // Line and column of a letter.
-#[derive(Drop)]
+#[derive(Clone, Copy)]
 pub struct Place {
     pub line: u64,
     pub column: u64,
@@ -531,14 +533,14 @@ fn put_word_if(out: &mut [u8], at: usize, count: usize, rows: bool) -> usize
 // Lines. A text is laid out a row a line where at least half of the lines that hold words hold six; the odd line is then the first that holds words, and not six.
 
 // Line 0 says that there is none.
-#[derive(Drop)]
+#[derive(Clone, Copy)]
 pub struct Odd {
     pub line: u64,
     pub words: u64,
 }
 
 // The line that is being read and its words so far, the lines before it that hold words, those of them that hold six, and the first that holds others.
-#[derive(Drop)]
+#[derive(Clone, Copy)]
 struct Lines {
     line: u64,
     words: u64,

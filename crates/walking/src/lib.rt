@@ -1,4 +1,6 @@
 // The walk of a table's rows: a body runs its loops, and a loop runs its body. Words and rows are read afresh where the reading does.
+#![tactic(auto)]
+
 ghost use Rattle.std.specs.Prelude.{◌≡◌, ℕ, ◌+◌, ◌-◌, ◌<◌, ◌≤◌, length, get_or};
 ghost use Rattle.word.specs.Words.{condition, update};
 ghost use Rattle.table.specs.Rows.{kind_at, word, size};
@@ -16,7 +18,7 @@ const FOR: u32 = 4;
 const END: u32 = 7;
 
 // At a row with so many turns left; a zero step at a FOR's row with so many left; or spent with a turn due.
-#[derive(Drop)]
+#[derive(Clone, Copy)]
 pub enum Went {
     On(u32, u64),
     Zero(u32, u64),

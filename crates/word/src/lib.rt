@@ -2,6 +2,8 @@
 // `condition`, `update` and `operate` answer their definitions of specs/Words.antt on all inputs.
 // The sign is worked out on u32: a cast to a signed number asks that nothing is lost.
 // Assumes nothing.
+#![tactic(auto)]
+
 ghost use Rattle.std.specs.Prelude.{◌≡◌, ◌/◌, ◌^◌, not, pos, neg_ℤ, nat_lt, unsigned_abs};
 ghost use Rattle.std.specs.Int.Signed.{non_neg};
 ghost use Rattle.word.specs.Words.{pick, flag, value_of, word_of, sum, difference, product, quotient, shift_left, shift_right, update, condition, operate};

@@ -1,1 +1,3 @@
 // What lowering writes, by number: theorems alone, in specs/.
+#![tactic(auto)]
+

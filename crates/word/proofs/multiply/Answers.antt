@@ -2,8 +2,7 @@
 -- Assumes nothing.
 use Rattle.std.proofs.Common.{ℕ, ◌+◌, ◌*◌, ◌^◌, ◌<◌, refl, lt_of_le_of_lt, le_of_lt, mul-le-mul_left, mul-lt-mul_of_pos_right, pow_pos, pow-add, rules}
 use mathlib.Core.Path.{subst⁻¹}
-use Rattle.word.proofs.multiply.Statement.{statement}
-use Rattle.word.proofs.multiply.Tie as tie
+use Rattle.word.proofs.multiply.Goals as goal
 
 -- Stated over the width, so that no power is computed.
 product_fits : (k : ℕ) {a b : ℕ} → a < 2 ^ k → b < 2 ^ k → a * b < 2 ^ (k + k)
@@ -11,14 +10,8 @@ product_fits k {a} {b} ha hb =
     subst⁻¹ (λ (n : ℕ). a * b < n) (pow-add 2 k k)
     (lt_of_le_of_lt (mul-le-mul_left a (le_of_lt hb)) (mul-lt-mul_of_pos_right ha (pow_pos k)))
 
-mul_result : tie.Need-overflow-mul-result
-mul_result c = record { fits = product_fits 32 (search rules) (search rules) }
+pub overflow_mul-result : goal.overflow_mul-result
+overflow_mul-result c = record { fits = product_fits 32 (search rules) (search rules) }
 
-cast_result : tie.Need-overflow-cast-result
-cast_result c = search rules
-
-returns : tie.Need-returns
-returns c = refl
-
-pub multiply_spec : {M : Type 1} → statement M
-multiply_spec = tie.close (tie.spec mul_result cast_result returns)
+pub returns : goal.returns
+returns c = record { answer = refl }
