@@ -240,7 +240,7 @@ module _ (t : List ℕ) (S : Structure t) where
       lu = let a = carried_before t S L u C in let b = C.below in omega arith
 
       ku : kind_at t u ≤ 6
-      ku = subst (λ (z : ℕ). kind_at t z ≤ 6) C.is_operand (S.operands C.row C.place C.row-Below C.place_below).is_value
+      ku = subst (λ (z : ℕ). kind_at t z ≤ 6) C.is_operand (S.operands C.row C.place C.row_below_lem C.place_below).is_value
 
       rb : reads t L ≡ body_of t L
       rb = S.reads_body L (λ z. let k = C.is_loop in omega arith)
@@ -487,4 +487,4 @@ module _ (t : List ℕ) (S : Structure t) where
     where
       home_is : (L v : ℕ) → CarriedBy t S L v → tb.home v ≡ home t v
       home_is L v C = Tables.home_of t v (let a = carried_before t S L v C in let l = C.below in omega arith)
-          (subst (λ (z : ℕ). kind_at t z ≤ 6) C.is_operand (S.operands C.row C.place C.row-Below C.place_below).is_value)
+          (subst (λ (z : ℕ). kind_at t z ≤ 6) C.is_operand (S.operands C.row C.place C.row_below_lem C.place_below).is_value)

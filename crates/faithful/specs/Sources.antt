@@ -209,7 +209,7 @@ module _ (t : List ℕ) (S : Structure t) where
   split_source L v true e in1 =
       let C = carried_by t S L v e in
       let lv : v < size t = let a = carried_before t S L v C in let b = C.below in omega arith in
-      let kv : kind_at t v ≤ 6 = subst (λ (z : ℕ). kind_at t z ≤ 6) C.is_operand (S.operands C.row C.place C.row-Below C.place_below).is_value in
+      let kv : kind_at t v ≤ 6 = subst (λ (z : ℕ). kind_at t z ≤ 6) C.is_operand (S.operands C.row C.place C.row_below_lem C.place_below).is_value in
       ap some (value_wire_lem v (reads t L) lv kv) ∙ sym (node_feed t (copySplit L v) in1 e)
   split_source L v true e in2 = sym (node_feed t (copySplit L v) in2 e)
 
