@@ -1,10 +1,10 @@
 -- What callers of the entries are answered: no second outcome fits, states may be lent on, and a run's answer does not hang on its order list.
 --
---   run-answers-alike         two calls on one state, neither refused, the first not SPENT, the second with enough allowance, answer the same and
+--   run_answers_alike         two calls on one state, neither refused, the first not SPENT, the second with enough allowance, answer the same and
 --                             leave the same words
---   run-counts-its-firings    the firings that a caller is told are the number of firings in the run's rule
---   load-leaves-right, fire-leaves-right, run-leaves-right    what a call that is not refused leaves is not refused by the next
---   one-load, one-fire, one-run       no second outcome fits
+--   run_counts_its_firings    the firings that a caller is told are the number of firings in the run's rule
+--   load_leaves_right, fire_leaves_right, run_leaves_right    what a call that is not refused leaves is not refused by the next
+--   one_load, one_fire, one_run       no second outcome fits
 --
 -- Assumes nothing.
 use Rattle.std.specs.Prelude.{ℕ, zero, suc, ◌+◌, ◌-◌, ◌≤◌, ◌≡◌, refl, ◌≢◌, Bool, true, false, length, eqb, ltb}

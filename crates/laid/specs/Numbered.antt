@@ -2,7 +2,7 @@
 -- below W and of its sort.
 --
 --   Right, AllRight       a row that is right, where its first output is to be f; rows that are right in order
---   rows-are-right        of the whole graph
+--   rows_are_right        of the whole graph
 --   Fits                  what a row takes
 --   rows_fit
 --

@@ -1,7 +1,7 @@
 -- What the nodes and results of a lowered table take: every wire once, none past the last.
 --
---   read-once         a wire below W is read once
---   stands-below      the wire of a use is below W
+--   read_once_lem     a wire below W is read once
+--   stands_below      the wire of a use is below W
 --
 -- Assumes nothing.
 use Prim.Native.Nat.{ℕ, zero, suc, ◌+◌, ◌≤◌, ◌<◌}

@@ -1,9 +1,9 @@
 -- Legal states stay legal: so a stopped run can always be resumed.
 --
---   loaded-is-legal           a freshly loaded state is legal
---   firing-keeps-legal        a firing of a legal state leaves a legal state
---   order-keeps-legal         so does any list of ready firings
---   run-keeps-legal           and so does a run
+--   loaded_is_legal           a freshly loaded state is legal
+--   firing_keeps_legal        a firing of a legal state leaves a legal state
+--   order_keeps_legal         so does any list of ready firings
+--   run_keeps_legal           and so does a run
 --
 -- Idea: a wire that is taken holds 0 0; a wire that is given a word holds 1 and a word of its sort, by the law of the node's step; a record that
 -- is left is legal, by the same law; all else stands.
