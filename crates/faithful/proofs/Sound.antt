@@ -17,7 +17,7 @@ use Rattle.structure.specs.Spans.{Encloses, same, inside, outermost}
 use Rattle.structure.specs.Operands.{Operand}
 use Rattle.structure.specs.Serving.{ArgRow, NextRow}
 use Rattle.structure.specs.Structure.{Structure}
-use Rattle.lowered.specs.Roles.{op_node, stream, gate, guard, copySplit, copyInvariant, carry, argSplit, Use, into, result}
+use Rattle.lowered.specs.Roles.{op_node, stream, gate, guard, copy_split, copy_invariant, carry, arg_split, Use, into, result}
 use Rattle.faithful.specs.Table.{Table, val, named, IsFor, born_by, born, slot, op_slot, stream_slot, guard_slot, gate_slot, copy_split_slot, copy_invariant_slot, carry_slot, arg_split_slot, result_slot, is_op, is_start, is_in, is_arg, is_for_row}
 use Rattle.faithful.specs.Good.{Inner, Used, Good}
 use Rattle.faithful.specs.Turn.{since_born}
@@ -360,10 +360,10 @@ module _ (t : List ℕ) (S : Structure t) where
   every_use (into (stream L) k) v B c h = use_stream L (tb.row L) k v B c refl h
   every_use (into (gate L) k) v B c h = absurd (not_gate (is_for_row (tb.row L)) L k v B c h)
   every_use (into (guard L) k) v B c h = use_guard L (tb.row L) k v B c refl h
-  every_use (into (copySplit L u) k) v B c h = use_copy L u (tb.carried L u) k v B c refl h
-  every_use (into (copyInvariant L u) k) v B c h = absurd (not_copy (tb.carried L u) (tb.reads L) L u k v B c h)
+  every_use (into (copy_split L u) k) v B c h = use_copy L u (tb.carried L u) k v B c refl h
+  every_use (into (copy_invariant L u) k) v B c h = absurd (not_copy (tb.carried L u) (tb.reads L) L u k v B c h)
   every_use (into (carry a) k) v B c h = use_carry a (tb.row a) k v B c refl h
-  every_use (into (argSplit a) k) v B c h = absurd (not_arg (is_arg (tb.row a)) (body_of t a) a k v B c h)
+  every_use (into (arg_split a) k) v B c h = absurd (not_arg (is_arg (tb.row a)) (body_of t a) a k v B c h)
   every_use (result q) v B c h = use_result q (tb.row q) v B c refl h
 
   -- ---- rows by their form
