@@ -7,7 +7,7 @@
 -- empty registers. Letters are written A = 1 to H = 8, T = 1 and F = 0. A table's case shows the answer, the node and the firings of its
 -- run, then the words that its results hold.
 -- Assumes nothing.
-use Rattle.std.specs.Prelude.{ℕ, ◌+◌, ◌*◌, ◌≡◌, refl, List, [], ◌∷◌}
+use Rattle.std.specs.Prelude.{ℕ, ◌+◌, ◌*◌, ◌≡◌, List, [], ◌∷◌}
 use Rattle.word.specs.Words.{condition, update}
 use Rattle.step.specs.Kinds.{STREAM, GATE, CARRY, INVARIANT}
 use Rattle.step.specs.Machines.{step}
