@@ -1,7 +1,6 @@
 -- `forking::added_nodes` meets its contract. A wire without a use has a drain, any other a fork less than it has uses.
 -- Assumes nothing.
 use borrow.Author.Tests.{ne_eqb}
-use borrow.Author.Rules.{rules}
 use Rattle.forking.proofs.added_nodes.Goals as goal
 
 pub returns-in-0 : goal.returns-in-0

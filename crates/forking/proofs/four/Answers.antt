@@ -1,7 +1,6 @@
 -- `forking::four` meets its contract. Four stores are one run of words.
 -- Assumes nothing.
 use native.Mathlib.Omega.{arith}
-use borrow.Author.Rules.{rules}
 use lib.ListN.{length-set}
 use Rattle.forking.specs.Written.{four_words}
 use Rattle.forking.proofs.four.Goals as goal

@@ -1,6 +1,5 @@
 -- `forking::leg` meets its contract. One use has the wire itself; each but the last of several has a fork's first leg, the last one the second leg of the last fork.
 -- Assumes nothing.
-use borrow.Author.Rules.{rules}
 use Rattle.forking.proofs.Uses.{leg_whole, leg_first, leg_last}
 use Rattle.forking.proofs.leg.Goals as goal
 

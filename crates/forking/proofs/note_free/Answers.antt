@@ -1,13 +1,11 @@
 -- `forking::note_free` meets its contract. Before wire w both sums run over the wires below it, and w's free number is what they leave.
 -- Assumes nothing.
-use Prim.Native.Nat.{ℕ, ◌+◌, ◌-◌, ◌*◌, ◌<◌, ◌≤◌}
+use Prim.Native.Nat.{ℕ, ◌+◌}
 use mathlib.Core.Path.{◌≡◌, refl, ap}
 use native.Mathlib.Omega.{arith}
-use borrow.Author.Rules.{rules}
-use lib.ListN.{get_or}
 use Rattle.graph.specs.Below.{total, total_more}
 use Rattle.forking.specs.Forked.{nodes_by, wires_by, free_of, added_nodes_low}
-use Rattle.forking.specs.Tallied.{Below, filled_more}
+use Rattle.forking.specs.Tallied.{filled_more}
 use Rattle.forking.proofs.Uses.{below_set}
 use Rattle.forking.proofs.note_free.Goals as goal
 

@@ -1,12 +1,9 @@
-use Prim.Native.Nat.{ℕ, ◌+◌, ◌-◌, ◌*◌, ◌<◌, ◌≤◌}
-use mathlib.Core.Path.{◌≡◌, refl, ap}
-use native.Mathlib.Omega.{arith}
-use borrow.Author.Rules.{rules}
+use Prim.Native.Nat.{ℕ, ◌-◌, ◌*◌, ◌<◌, ◌≤◌}
+use mathlib.Core.Path.{◌≡◌}
 use lib.ListN.{get_or}
-use Rattle.graph.specs.Below.{total, total_more}
-use Rattle.forking.specs.Forked.{nodes_by, wires_by, free_of, added_nodes_low}
-use Rattle.forking.specs.Tallied.{Below, filled_more}
-use Rattle.forking.proofs.Uses.{below_set}
+use Rattle.graph.specs.Below.{total}
+use Rattle.forking.specs.Forked.{nodes_by, wires_by, free_of}
+use Rattle.forking.specs.Tallied.{Below}
 use Rattle.forking.proofs.note_free.Given as goal
 
 abbrev pub invariant-loop-w : goal.invariant-loop-w

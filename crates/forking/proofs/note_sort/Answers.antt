@@ -1,7 +1,6 @@
 -- `forking::note_sort` meets its contract. One or two stores, by the outputs of the row's kind.
 -- Assumes nothing.
 use native.Mathlib.Omega.{arith}
-use borrow.Author.Rules.{rules}
 use Rattle.forking.proofs.Words.{one_sort, two_sorts}
 use Rattle.forking.proofs.note_sort.Goals as goal
 

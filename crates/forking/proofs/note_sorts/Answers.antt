@@ -1,6 +1,5 @@
 -- `forking::note_sorts` meets its contract. The table after i rows holds the sorts of their outputs.
 -- Assumes nothing.
-use Prim.Native.Nat.{◌-◌, ◌≤◌}
 use mathlib.Core.Path.{◌≡◌, refl}
 use native.Mathlib.Omega.{arith}
 use Rattle.forking.specs.Sorted.{sorted_rows}

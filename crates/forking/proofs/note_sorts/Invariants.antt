@@ -1,8 +1,6 @@
 use Prim.Native.Nat.{◌-◌, ◌≤◌}
-use mathlib.Core.Path.{◌≡◌, refl}
-use native.Mathlib.Omega.{arith}
+use mathlib.Core.Path.{◌≡◌}
 use Rattle.forking.specs.Sorted.{sorted_rows}
-use Rattle.forking.proofs.Words.{sorted_more}
 use Rattle.forking.proofs.note_sorts.Given as goal
 
 abbrev pub invariant-loop-i : goal.invariant-loop-i

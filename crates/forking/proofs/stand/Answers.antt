@@ -1,7 +1,6 @@
 -- `forking::stand` meets its contract. The leg by the uses seen so far, of which there is then one more.
 -- Assumes nothing.
 use native.Mathlib.Omega.{arith}
-use borrow.Author.Rules.{rules}
 use Rattle.forking.proofs.Uses.{placed, unused, stands_nowhere, stands_here}
 use Rattle.forking.proofs.stand.Goals as goal
 

@@ -1,7 +1,6 @@
 -- `forking::tally` meets its contract. One place grows by one; X has no place.
 -- Assumes nothing.
 use native.Mathlib.Omega.{arith}
-use borrow.Author.Rules.{rules}
 use Rattle.forking.proofs.Uses.{placed, used, unused}
 use Rattle.forking.proofs.tally.Goals as goal
 

@@ -1,6 +1,5 @@
 -- `forking::tally_outs` meets its contract. The table after i results holds their uses besides.
 -- Assumes nothing.
-use Prim.Native.Nat.{◌-◌, ◌≤◌}
 use mathlib.Core.Path.{◌≡◌, refl}
 use native.Mathlib.Omega.{arith}
 use lib.ListN.{get_or}

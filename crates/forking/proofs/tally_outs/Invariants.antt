@@ -1,11 +1,8 @@
 use Prim.Native.Nat.{◌-◌, ◌≤◌}
-use mathlib.Core.Path.{◌≡◌, refl}
-use native.Mathlib.Omega.{arith}
-use lib.ListN.{get_or}
+use mathlib.Core.Path.{◌≡◌}
 use Rattle.graph.specs.Below.{joined}
-use Rattle.forking.specs.Written.{row_outs, tallied_more, joined_long}
+use Rattle.forking.specs.Written.{row_outs}
 use Rattle.forking.specs.Tallied.{tallied}
-use Rattle.forking.proofs.Uses.{tally_below, one_use}
 use Rattle.forking.proofs.tally_outs.Given as goal
 
 abbrev pub invariant-loop-i : goal.invariant-loop-i

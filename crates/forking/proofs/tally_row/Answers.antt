@@ -2,7 +2,6 @@
 -- Assumes nothing.
 use Prim.Native.Nat.{◌+◌, ◌*◌}
 use native.Mathlib.Omega.{arith}
-use borrow.Author.Rules.{rules}
 use lib.ListN.{get_or}
 use Rattle.forking.proofs.Uses.{looser, one_more_below, three_uses}
 use Rattle.forking.proofs.tally_row.Goals as goal

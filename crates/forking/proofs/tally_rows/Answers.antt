@@ -1,6 +1,5 @@
 -- `forking::tally_rows` meets its contract. The table after i rows holds the uses of their inputs.
 -- Assumes nothing.
-use Prim.Native.Nat.{◌-◌, ◌≤◌}
 use mathlib.Core.Path.{◌≡◌, refl}
 use native.Mathlib.Omega.{arith}
 use Rattle.graph.specs.Below.{joined}

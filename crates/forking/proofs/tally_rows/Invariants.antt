@@ -1,10 +1,8 @@
 use Prim.Native.Nat.{◌-◌, ◌≤◌}
-use mathlib.Core.Path.{◌≡◌, refl}
-use native.Mathlib.Omega.{arith}
+use mathlib.Core.Path.{◌≡◌}
 use Rattle.graph.specs.Below.{joined}
-use Rattle.forking.specs.Written.{row_inputs, tallied_more, joined_long}
+use Rattle.forking.specs.Written.{row_inputs}
 use Rattle.forking.specs.Tallied.{tallied}
-use Rattle.forking.proofs.Uses.{tally_below}
 use Rattle.forking.proofs.tally_rows.Given as goal
 
 abbrev pub invariant-loop-i : goal.invariant-loop-i

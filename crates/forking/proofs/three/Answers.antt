@@ -1,7 +1,6 @@
 -- `forking::three` meets its contract. Three stores are one run of words.
 -- Assumes nothing.
 use native.Mathlib.Omega.{arith}
-use borrow.Author.Rules.{rules}
 use lib.ListN.{length-set}
 use Rattle.forking.specs.Written.{three_words}
 use Rattle.forking.proofs.three.Goals as goal

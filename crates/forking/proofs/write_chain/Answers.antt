@@ -1,11 +1,9 @@
 -- `forking::write_chain` meets its contract. What is left to write, written at the present place, always makes the whole chain.
 -- Assumes nothing.
-use Prim.Native.Nat.{◌+◌, ◌*◌, ◌≤◌}
 use mathlib.Core.Path.{◌≡◌, refl, sym, ap, ◌∙◌}
 use native.Mathlib.Omega.{arith}
 use lib.Seq.{sets}
-use lib.ListN.{length}
-use Rattle.forking.specs.Forked.{fork_words, fork_words_one}
+use Rattle.forking.specs.Forked.{fork_words_one}
 use Rattle.forking.proofs.Words.{chain_more}
 use Rattle.forking.proofs.write_chain.Goals as goal
 

@@ -1,10 +1,8 @@
 use Prim.Native.Nat.{◌+◌, ◌*◌, ◌≤◌}
-use mathlib.Core.Path.{◌≡◌, refl, sym, ap, ◌∙◌}
-use native.Mathlib.Omega.{arith}
+use mathlib.Core.Path.{◌≡◌}
 use lib.Seq.{sets}
 use lib.ListN.{length}
-use Rattle.forking.specs.Forked.{fork_words, fork_words_one}
-use Rattle.forking.proofs.Words.{chain_more}
+use Rattle.forking.specs.Forked.{fork_words}
 use Rattle.forking.proofs.write_chain.Given as goal
 
 abbrev pub invariant-loop-k : goal.invariant-loop-k

@@ -1,13 +1,9 @@
 -- `forking::write_forks` meets its contract. After w wires their forks' words stand in a run, seven for each node they add.
 -- Assumes nothing.
-use Prim.Native.Nat.{◌+◌, ◌-◌, ◌*◌, ◌≤◌}
 use mathlib.Core.Path.{◌≡◌, refl, ap, ◌∙◌}
 use native.Mathlib.Omega.{arith}
-use borrow.Author.Rules.{rules}
-use lib.Seq.{sets}
-use lib.ListN.{length}
 use Rattle.graph.specs.Below.{joined, total, total_more, total_within}
-use Rattle.forking.specs.Forked.{nodes_by, fork_words_by}
+use Rattle.forking.specs.Forked.{nodes_by}
 use Rattle.forking.proofs.Words.{forks_at}
 use Rattle.forking.proofs.write_forks.Goals as goal
 
@@ -71,7 +67,7 @@ loop-w-preserved c = let e = c.wide.ensures.0 in let d = c.wide-i.ensures.0 in l
     let t = total_more (nodes_by u) l.w in
     let n = c.added_nodes.ensures in
     let z : nodes_by u i ≡ nodes_by u l.w = ap (nodes_by u) d in
-    (omega arith, c.write_forks_of.auto.wire.1.1.1.0 ∙ l.invariant.1, omega arith, forks_at a.sorts.now u a.free.now a.at l.w a.graph.now d l.invariant.2 l.invariant.3 c.write_forks_of.ensures)
+    (omega arith, c.write_forks_of.auto.graph ∙ l.invariant.1, omega arith, forks_at a.sorts.now u a.free.now a.at l.w a.graph.now d l.invariant.2 l.invariant.3 c.write_forks_of.ensures)
 
 pub shape_of-graph : goal.shape_of-graph
 shape_of-graph c = c.loop-w.invariant.1

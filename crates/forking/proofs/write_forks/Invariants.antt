@@ -1,12 +1,9 @@
 use Prim.Native.Nat.{◌+◌, ◌-◌, ◌*◌, ◌≤◌}
-use mathlib.Core.Path.{◌≡◌, refl, ap, ◌∙◌}
-use native.Mathlib.Omega.{arith}
-use borrow.Author.Rules.{rules}
+use mathlib.Core.Path.{◌≡◌}
 use lib.Seq.{sets}
 use lib.ListN.{length}
-use Rattle.graph.specs.Below.{joined, total, total_more, total_within}
+use Rattle.graph.specs.Below.{joined, total}
 use Rattle.forking.specs.Forked.{nodes_by, fork_words_by}
-use Rattle.forking.proofs.Words.{forks_at}
 use Rattle.forking.proofs.write_forks.Given as goal
 
 abbrev pub invariant-loop-w : goal.invariant-loop-w

@@ -1,7 +1,6 @@
 -- `forking::write_forks_of` meets its contract. A drain where there is no use, else the chain.
 -- Assumes nothing.
 use native.Mathlib.Omega.{arith}
-use borrow.Author.Rules.{rules}
 use lib.ListN.{length}
 use Rattle.forking.proofs.Words.{drain_written, used_long, drained_long}
 use Rattle.forking.proofs.write_forks_of.Goals as goal

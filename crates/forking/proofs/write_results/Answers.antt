@@ -1,12 +1,11 @@
 -- `forking::write_results` meets its contract. After i results their words stand in a run, and their uses are tallied.
 -- Assumes nothing.
-use Prim.Native.Nat.{◌+◌, ◌-◌, ◌≤◌}
+use Prim.Native.Nat.{◌+◌}
 use mathlib.Core.Path.{◌≡◌, refl, ◌∙◌}
 use native.Mathlib.Omega.{arith}
-use lib.Seq.{sets}
-use lib.ListN.{length, get_or, length-set}
+use lib.ListN.{get_or, length-set}
 use Rattle.graph.specs.Below.{joined}
-use Rattle.forking.specs.Written.{row_outs, out_words, tallied_more, joined_long}
+use Rattle.forking.specs.Written.{row_outs, tallied_more, joined_long}
 use Rattle.forking.specs.Tallied.{tallied}
 use Rattle.forking.proofs.Words.{next_result_written}
 use Rattle.forking.proofs.Uses.{tally_below, one_use}

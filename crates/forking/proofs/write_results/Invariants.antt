@@ -1,13 +1,10 @@
-use Prim.Native.Nat.{◌+◌, ◌-◌, ◌≤◌}
-use mathlib.Core.Path.{◌≡◌, refl, ◌∙◌}
-use native.Mathlib.Omega.{arith}
+use Prim.Native.Nat.{◌-◌, ◌≤◌}
+use mathlib.Core.Path.{◌≡◌}
 use lib.Seq.{sets}
-use lib.ListN.{length, get_or, length-set}
+use lib.ListN.{length}
 use Rattle.graph.specs.Below.{joined}
-use Rattle.forking.specs.Written.{row_outs, out_words, tallied_more, joined_long}
+use Rattle.forking.specs.Written.{row_outs, out_words}
 use Rattle.forking.specs.Tallied.{tallied}
-use Rattle.forking.proofs.Words.{next_result_written}
-use Rattle.forking.proofs.Uses.{tally_below, one_use}
 use Rattle.forking.proofs.write_results.Given as goal
 
 abbrev pub invariant-loop-i : goal.invariant-loop-i

@@ -1,12 +1,9 @@
 -- `forking::write_rows` meets its contract. After i rows their words stand in a run, and the uses of their inputs are tallied.
 -- Assumes nothing.
-use Prim.Native.Nat.{◌-◌, ◌≤◌}
 use mathlib.Core.Path.{◌≡◌, refl, ◌∙◌}
 use native.Mathlib.Omega.{arith}
-use lib.Seq.{sets}
-use lib.ListN.{length}
 use Rattle.graph.specs.Below.{joined}
-use Rattle.forking.specs.Written.{row_inputs, row_words, tallied_more, joined_long}
+use Rattle.forking.specs.Written.{row_inputs, tallied_more, joined_long}
 use Rattle.forking.specs.Tallied.{tallied}
 use Rattle.forking.proofs.Words.{next_row_written}
 use Rattle.forking.proofs.Uses.{tally_below}
@@ -33,7 +30,7 @@ loop-i-smaller c = omega arith
 
 pub loop-i-preserved : goal.loop-i-preserved
 loop-i-preserved c = let a = c.args in let l = c.loop-i in
-    (omega arith, c.write_row.auto.i.1.1.1.1.0 ∙ l.invariant.1, tallied_more (row_inputs a.rows.now) l.i a.seen.now l.invariant.2 c.write_row.ensures.0, next_row_written a.free.now a.uses.now a.rows.now a.seen.now a.at l.i a.graph.now l.invariant.3 l.invariant.2 c.write_row.ensures.1)
+    (omega arith, c.write_row.auto.graph ∙ l.invariant.1, tallied_more (row_inputs a.rows.now) l.i a.seen.now l.invariant.2 c.write_row.ensures.0, next_row_written a.free.now a.uses.now a.rows.now a.seen.now a.at l.i a.graph.now l.invariant.3 l.invariant.2 c.write_row.ensures.1)
 
 pub shape_of-graph : goal.shape_of-graph
 shape_of-graph c = c.loop-i.invariant.1

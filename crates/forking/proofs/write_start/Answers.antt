@@ -1,7 +1,6 @@
 -- `forking::write_start` meets its contract. By the row's kind.
 -- Assumes nothing.
 use native.Mathlib.Omega.{arith}
-use borrow.Author.Rules.{rules}
 use lib.ListN.{length-set}
 use Rattle.forking.proofs.Words.{start_input, start_constant}
 use Rattle.forking.proofs.write_start.Goals as goal

@@ -1,17 +1,13 @@
 -- `forking::write_starts` meets its contract. After r rows their words stand in a run, and the inputs among them are counted.
 -- Assumes nothing.
-use Prim.Native.Nat.{◌-◌, ◌≤◌}
 use mathlib.Core.Path.{◌≡◌, refl, ◌∙◌}
 use native.Mathlib.Omega.{arith}
 use lib.Dec.{eqb}
-use lib.Seq.{sets}
-use lib.ListN.{length}
 use Rattle.graph.specs.Below.{joined}
 use Rattle.table.specs.Rows.{kind_at}
-use Rattle.lowered.specs.Lower.{start_words}
 use Rattle.lowered.specs.Gathered.{those}
 use Rattle.laid.specs.Those.{those_few}
-use Rattle.forking.proofs.Words.{inputs_before, inputs_more, next_start_written}
+use Rattle.forking.proofs.Words.{inputs_more, next_start_written}
 use Rattle.forking.proofs.write_starts.Goals as goal
 
 pub loop-r-init : goal.loop-r-init
@@ -56,7 +52,7 @@ loop-r-smaller c = omega arith
 
 pub loop-r-preserved : goal.loop-r-preserved
 loop-r-preserved c = let l = c.loop-r in let a = c.args in let m = inputs_more a.table.now l.r in let s = c.write_start-inputs.ensures.0 in
-    (omega arith, c.write_start-inputs.auto.word.1.1.0 ∙ l.invariant.1, omega arith, next_start_written a.table.now a.at l.r a.graph.now l.invariant.2 l.invariant.3 c.write_start-inputs.ensures.1)
+    (omega arith, c.write_start-inputs.auto.graph ∙ l.invariant.1, omega arith, next_start_written a.table.now a.at l.r a.graph.now l.invariant.2 l.invariant.3 c.write_start-inputs.ensures.1)
 
 pub shape_of-graph : goal.shape_of-graph
 shape_of-graph c = c.loop-r.invariant.1

@@ -1,15 +1,10 @@
 use Prim.Native.Nat.{◌-◌, ◌≤◌}
-use mathlib.Core.Path.{◌≡◌, refl, ◌∙◌}
-use native.Mathlib.Omega.{arith}
-use lib.Dec.{eqb}
+use mathlib.Core.Path.{◌≡◌}
 use lib.Seq.{sets}
 use lib.ListN.{length}
 use Rattle.graph.specs.Below.{joined}
-use Rattle.table.specs.Rows.{kind_at}
 use Rattle.lowered.specs.Lower.{start_words}
-use Rattle.lowered.specs.Gathered.{those}
-use Rattle.laid.specs.Those.{those_few}
-use Rattle.forking.proofs.Words.{inputs_before, inputs_more, next_start_written}
+use Rattle.forking.proofs.Words.{inputs_before}
 use Rattle.forking.proofs.write_starts.Given as goal
 
 abbrev pub invariant-loop-r : goal.invariant-loop-r
