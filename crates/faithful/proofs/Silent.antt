@@ -3,10 +3,10 @@
 --
 --   Silent, Dead              a wire of an early wire's tree that is no later row's; a node before the loop, or a fork or drain of an early wire
 --   Hushed                    silent wires are empty, dead nodes at rest
---   first-hushed              so it is where the reading has come to the loop, or behind it
---   hushed-run                and it stays so
---   waits-late                so no node with a lower number than that loop's STREAM is found waiting with a zero step
---   AtFault, at-fault         where the reading meets a zero step
+--   first_hushed              so it is where the reading has come to the loop, or behind it
+--   hushed_run                and it stays so
+--   waits_late                so no node with a lower number than that loop's STREAM is found waiting with a zero step
+--   AtFault, at_fault         where the reading meets a zero step
 --
 -- The idea. A dead node takes only from dead nodes and from starts, so none is the first to fire again.
 -- Assumes nothing.
@@ -53,16 +53,16 @@ use Rattle.faithful.specs.Table.{Table, IsFor, src, Real, plan}
 use Rattle.faithful.specs.Good.{Good}
 use Rattle.faithful.specs.Gamma.{Env, Gamma}
 use Rattle.faithful.specs.Tables.{table_of, for_kind}
-use Rattle.faithful.specs.Sound.{passing_is_good}
+use Rattle.faithful.proofs.Sound.{passing_is_good}
 use Rattle.faithful.specs.Passed.{role_at, EarlyWire, source_early, tok_none, own_rest}
 use Rattle.faithful.specs.Finish.{Laid, quiet_run, fork_quiet}
 use Rattle.faithful.specs.Legs.{up_from_range, fork_at}
-use Rattle.faithful.specs.Places.{num, forks, role_listed, role_node_lem, nodes_of, layout, laid}
-use Rattle.faithful.specs.Loading.{start_of}
-use Rattle.faithful.specs.Following.{Faulted}
-use Rattle.faithful.specs.Order.{first_state, Shows, order_shows}
+use Rattle.faithful.proofs.Places.{num, forks, role_listed, role_node_lem, nodes_of, layout, laid}
+use Rattle.faithful.proofs.Loading.{start_of}
+use Rattle.faithful.proofs.Following.{Faulted}
+use Rattle.faithful.proofs.Order.{first_state, Shows, order_shows}
 use Rattle.faithful.specs.Faults.{ZeroStepped}
-use Rattle.faithful.specs.Waiting.{waiting}
+use Rattle.faithful.proofs.Waiting.{waiting}
 
 -- ---- tokens
 

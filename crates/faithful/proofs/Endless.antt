@@ -2,8 +2,8 @@
 --
 --   Bounded                   what n firings that follow so many steps of the reading say of it
 --   Far                       firings that follow so many steps of the reading, and how many they are at least
---   outcome-or-far            so many steps of the reading are followed, to its outcome or not yet there
---   enough-steps              (F + 1) times (rows + 1) steps are followed by more than F firings
+--   outcome_or_far            so many steps of the reading are followed, to its outcome or not yet there
+--   enough_steps              (F + 1) times (rows + 1) steps are followed by more than F firings
 --
 -- Idea: a step that does not go back raises the row, which is at most the row count; a step that goes back, an END with another turn, has a firing,
 -- and so has a first turn.
@@ -26,7 +26,7 @@ use Rattle.lowered.specs.Roles.{Role}
 use Rattle.uses.specs.Machine.{State, Steps, steps_append}
 use Rattle.faithful.specs.Table.{plan}
 use Rattle.faithful.specs.Tables.{table_of, row_at_lem}
-use Rattle.faithful.specs.Following.{DownOrFires, Follows, one_step}
+use Rattle.faithful.proofs.Following.{DownOrFires, Follows, one_step}
 
 -- one step more, from row pc to row pc₁ with n firings, before k steps with n₁ firings; the rows are z
 one_more_lem : (z k pc m pc₁ m₁ n n₁ : ℕ) → k + pc₁ ≤ n₁ * suc z + z → pc ≤ z → DownOrFires pc m pc₁ m₁ n → suc k + pc ≤ (n + n₁) * suc z + z

@@ -1,7 +1,7 @@
 -- Where the reading meets a zero step, the lowered graph's STREAM of that loop waits with it, and the graph is not complete.
 --
 --   waiting                   an order that shows the reading at a FOR row with a zero step leaves the STREAM waiting
---   not-complete              a graph in which it waits is not complete: the wire of its step is full, and no result
+--   not_complete              a graph in which it waits is not complete: the wire of its step is full, and no result
 --
 -- Assumes nothing.
 use Rattle.std.proofs.Math.Path.{◌≡◌, refl, ap}
@@ -38,9 +38,9 @@ use Rattle.faithful.specs.Good.{Good}
 use Rattle.faithful.specs.Gamma.{Env, Gamma}
 use Rattle.faithful.specs.Rows.{token_at_lem}
 use Rattle.faithful.specs.Tables.{table_of}
-use Rattle.faithful.specs.Sound.{passing_is_good}
-use Rattle.faithful.specs.Places.{num, layout, laid, role_node_lem, first_of}
-use Rattle.faithful.specs.Order.{Shows}
+use Rattle.faithful.proofs.Sound.{passing_is_good}
+use Rattle.faithful.proofs.Places.{num, layout, laid, role_node_lem, first_of}
+use Rattle.faithful.proofs.Order.{Shows}
 use Rattle.faithful.specs.Endings.{result_row, holds_token_lem}
 use Rattle.faithful.specs.Faults.{ZeroStepped}
 

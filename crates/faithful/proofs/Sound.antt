@@ -1,8 +1,8 @@
 -- EVERY TABLE OF WORDS THAT PASSES IS GOOD: the facts on which the following of the reading rests, from the structure of a passing table.
 --
---   operand-used              an operand is a use of its value in the body where it is read, until its row
---   every-use                 so are all uses: of OP and PICK, of FOR, of ARG and NEXT, of copies, of results
---   passing-is-good           the facts, all together
+--   operand_used              an operand is a use of its value in the body where it is read, until its row
+--   every_use                 so are all uses: of OP and PICK, of FOR, of ARG and NEXT, of copies, of results
+--   passing_is_good           the facts, all together
 --
 -- Assumes nothing.
 use Rattle.std.proofs.Math.Path.{◌≡◌, refl, sym, subst}

@@ -2,13 +2,13 @@
 -- the reading stands.
 --
 --   Follows                   the use machine stands where the reading does: its configuration, and the words on each loop's conditions
---   one-step                  a step of the reading is a list of firings, and one that goes back or makes a turn has some
+--   one_step                  a step of the reading is a list of firings, and one that goes back or makes a turn has some
 --   Ended, Faulted            the reading has ended; it has met a zero step
 --   followed                  a reading that comes to an outcome is followed to it
 --
 -- Assumes nothing.
 use Rattle.std.proofs.Math.Path.{◌≡◌, refl, sym, ap, subst, subst₂}
-use Rattle.std.proofs.Common.{◌∙◌, lt-ltb, le-ltb, eq-eqb, ne_eqb, eqb-true, length-append}
+use Rattle.std.proofs.Common.{◌∙◌, eq-eqb, ne_eqb, eqb-true, length-append}
 use Rattle.std.specs.Prelude.{◌≢◌, ◌⊎◌, Bool, true, false, ◌&&◌, length}
 use Rattle.std.proofs.Math.Logic.{inl, inr}
 use Rattle.std.proofs.Math.Bool.{cond}
@@ -38,10 +38,10 @@ use Rattle.faithful.specs.Gamma.{Env, Inside, Gamma}
 use Rattle.faithful.specs.Rows.{set_by, set_to, choose, body_quiet, plain_row, step_plain, Path, silent, step_op, step_pick}
 use Rattle.faithful.specs.Stages.{say_if}
 use Rattle.faithful.specs.Turn.{is_next, args_to, nexts_to, turn_env, for_edge, turn_edge, end_edge, exit_edge, inside_same}
-use Rattle.faithful.specs.For.{step_open, step_none}
-use Rattle.faithful.specs.End.{step_again, step_leave}
+use Rattle.faithful.proofs.For.{step_open, step_none}
+use Rattle.faithful.proofs.End.{step_again, step_leave}
 use Rattle.faithful.specs.Carried.{first_is, last_is}
-use Rattle.faithful.specs.Sound.{passing_is_good}
+use Rattle.faithful.proofs.Sound.{passing_is_good}
 use Rattle.faithful.specs.Conditions.{Told, turns_other, one_turn_other, told_same, told_opens, told_skips, told_again, told_leaves}
 use Rattle.faithful.specs.Table
 use Rattle.faithful.specs.Tables

@@ -1,9 +1,9 @@
 -- One order on the lowered words follows the plain reading: from the freshly loaded state it spreads the starts, and then fires as the use machine
 -- does.
 --
---   first-state               the use machine's state when the starts are spread; it follows the reading at its beginning
+--   first_state               the use machine's state when the starts are spread; it follows the reading at its beginning
 --   Shows                     a list of ready firings on the words that shows a state of the use machine
---   order-shows               every path of the use machine from its first state is shown by one, which is no shorter
+--   order_shows               every path of the use machine from its first state is shown by one, which is no shorter
 --
 -- Assumes nothing.
 use Rattle.std.specs.Prelude.{◌≡◌, refl, List, [], ◌++◌, ℕ, ◌≤◌, length}
@@ -29,13 +29,13 @@ use Rattle.uses.specs.Flat.{Rep, flat_run}
 use Rattle.faithful.specs.Table.{Table, plan}
 use Rattle.faithful.specs.Gamma.{Env}
 use Rattle.faithful.specs.Tables.{table_of}
-use Rattle.faithful.specs.Sound.{passing_is_good}
+use Rattle.faithful.proofs.Sound.{passing_is_good}
 use Rattle.faithful.specs.Conditions.{turns_of}
-use Rattle.faithful.specs.Following.{Follows}
+use Rattle.faithful.proofs.Following.{Follows}
 use Rattle.faithful.specs.Begin.{begin_all, state0, shown0, gamma0}
 use Rattle.faithful.specs.Finish.{Laid, Loaded, begun, first_rep}
-use Rattle.faithful.specs.Places.{layout, laid}
-use Rattle.faithful.specs.Loading.{loaded_is}
+use Rattle.faithful.proofs.Places.{layout, laid}
+use Rattle.faithful.proofs.Loading.{loaded_is}
 
 module _ (t : List ℕ) (S : Structure t) (ok : graph_refusal (lowered_words t) ≡ 0) (inputs : List ℕ) where
   abbrev tb : Table

@@ -1,8 +1,8 @@
 -- THE LOWERED WORDS LAY OUT THE TABLE: every node, wire and use of the table stands at its number, and the forks and drains behind.
 --
---   role-node                 a role's node is in the graph's words, at the role's place
---   output-wire               its outputs are numbered as the wires are listed
---   fork-node                 so are the FORKs and DRAINs of each wire
+--   role_node_lem             a role's node is in the graph's words, at the role's place
+--   output_wire               its outputs are numbered as the wires are listed
+--   fork_node_lem             so are the FORKs and DRAINs of each wire
 --   layout                    the graph's words are a layout of the table
 --   laid                      and there is nothing else in them
 --
@@ -44,7 +44,7 @@ use Rattle.laid.specs.Listed
 use Rattle.uses.specs.Wires.{Spread, below, nodes}
 use Rattle.uses.specs.Layout.{Layout, Made, wire_if, Tree}
 use Rattle.faithful.specs.Table.{Table, program_of, plan}
-use Rattle.faithful.specs.Sources.{source_is, to_real, from_real, use_is_listed, to_made, from_made, has_out}
+use Rattle.faithful.proofs.Sources.{source_is, to_real, from_real, use_is_listed, to_made, from_made, has_out}
 use Rattle.faithful.specs.Legs.{up_from, up_from_range, Placed, tails, fork_rows_long, tails_range, tails_once, spread_built, fork_at, free_low, free_high, free_apart, free_all, fork_all, fork_shift, placed_among, place_there, placed_is, placed_tree, placed_inj}
 use Rattle.faithful.specs.Finish.{Laid}
 use Rattle.faithful.specs.Table

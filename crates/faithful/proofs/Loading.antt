@@ -1,8 +1,8 @@
 -- The freshly loaded state of a lowered table: the words of INPUTs and CONSTs on their wires, 0 everywhere else; and that is the reading's beginning.
 --
 --   start_of                  the number of a start's wire is its place among the INPUT and CONST rows
---   start-word-is             the word loaded there is the reading's first word of that row
---   loaded-is                 so the loaded state is the reading's beginning
+--   start_word_is             the word loaded there is the reading's first word of that row
+--   loaded_is                 so the loaded state is the reading's beginning
 --
 -- Assumes nothing.
 use Rattle.std.specs.Prelude.{◌≡◌, Bool, ltb}
@@ -37,8 +37,8 @@ use Rattle.laid.specs.Words.{wire_count_lem, start_count_lem, start_kind_at_lem,
 use Rattle.uses.specs.Layout.{Made}
 use Rattle.uses.specs.Flat.{Holds, flag, word as word_of}
 use Rattle.faithful.specs.Table.{Table, plan}
-use Rattle.faithful.specs.Sources.{to_made, from_made}
-use Rattle.faithful.specs.Places.{layout, laid, number_is}
+use Rattle.faithful.proofs.Sources.{to_made, from_made}
+use Rattle.faithful.proofs.Places.{layout, laid, number_is}
 use Rattle.faithful.specs.Finish.{Loaded}
 use Rattle.faithful.specs.Tables
 

@@ -1,10 +1,10 @@
 -- The lowering's sources, nodes and wires are those of the abstract table.
 --
---   value-wire                the wire on which a value comes to a body
+--   value_wire_lem            the wire on which a value comes to a body
 --   source_is                 each use reads the wire that lowering says
---   to-real, from-real        the table has the same nodes
---   use-is-listed             a use that takes a wire is listed
---   to_made, from-made        and the same wires
+--   to_real, from_real        the table has the same nodes
+--   use_is_listed             a use that takes a wire is listed
+--   to_made, from_made        and the same wires
 --
 -- Assumes nothing.
 use Rattle.std.proofs.Math.Path.{◌≡◌, refl, sym, ap}
