@@ -1,3 +1,2 @@
 // Theorems alone: nothing here is run.
 #![tactic(auto)]
-

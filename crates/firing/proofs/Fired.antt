@@ -3,8 +3,8 @@
 -- Idea: an input that is taken was full and an output that is given had room (`Local`), so both are places that the kind has; hence the
 -- stores on the row's wires are the net's stores, and those wires are in the state.
 -- Assumes nothing.
-use Prim.Native.Nat.{ℕ, zero, suc, ◌+◌, ◌*◌, ◌<◌}
-use mathlib.Core.Path.{◌≡◌, refl, sym, ap, ap₂, ◌∙◌, subst}
+use Prim.Native.Nat.{ℕ, ◌+◌, ◌*◌, ◌<◌}
+use mathlib.Core.Path.{◌≡◌, refl, sym, ap, ap₂, ◌∙◌}
 use mathlib.Core.Logic.{◌≢◌}
 use mathlib.Core.Bool.{Bool, true, false}
 use mathlib.Core.List.{List, ◌++◌}
@@ -12,8 +12,8 @@ use mathlib.Core.Option.{Option, none, some}
 use native.Mathlib.Omega.{arith}
 use borrow.Author.Tests.{lt-ltb}
 use lib.Dec.{ltb}
-use lib.ListN.{get_or, length}
-use Rattle.word.specs.Words.{pick, word_limit}
+use lib.ListN.{get_or}
+use Rattle.word.specs.Words.{pick}
 use Rattle.step.specs.Kinds.{Kind, kind_of, inputs, outputs, Input, in0, in1, in2, Output, out0, out1}
 use Rattle.step.specs.Firing.{View, Effect, waits, room, takes, gives}
 use Rattle.step.specs.Machines.{step_by, step_of}
@@ -27,7 +27,7 @@ use Rattle.step.specs.declared.Firing.TheVariants.{NotReady, Fires}
 use Rattle.lent.specs.Left.{left_by}
 use Rattle.graph.specs.Graph.{Node, node_of, node_at, row_at, node_count, wire_count, row_place, column, input_of, output_of, input_at, output_at}
 use Rattle.state.specs.State.{Stores, stored, emptied, filled, kept, token_on, has_room, record_at}
-use Rattle.state.specs.Net.{Net, view, effect_at, stores, after, fire, is_ready, or_else, step_at, net_of}
+use Rattle.state.specs.Net.{view, effect_at, stores, after, fire, is_ready, or_else, step_at, net_of}
 use Rattle.firing.specs.Acted.{act_stores, Room, Reads, Within, Sees, Placed}
 use Rattle.firing.specs.declared.Row.{Row}
 
@@ -50,22 +50,22 @@ module _ (g : List ℕ) (i : ℕ) (s : List ℕ) (f : Firing) (F : shown f ≡ e
 
 module _ (o : Option Kind) (c s w0 w1 w2 f : ℕ) where
   read_in0 : input_of (node_of o c s w0 w1 w2 f) in0 ≡ pick (ltb 0 (column inputs o)) (some w0) none
-  read_in0 = elim o [ none ↦ refl | some κ ↦ refl ]
+  read_in0 = elim o as (λ k. input_of (node_of k c s w0 w1 w2 f) in0 ≡ pick (ltb 0 (column inputs k)) (some w0) none) [ none ↦ refl | some κ ↦ refl ]
 
   read_in1 : input_of (node_of o c s w0 w1 w2 f) in1 ≡ pick (ltb 1 (column inputs o)) (some w1) none
-  read_in1 = elim o [ none ↦ refl | some κ ↦ refl ]
+  read_in1 = elim o as (λ k. input_of (node_of k c s w0 w1 w2 f) in1 ≡ pick (ltb 1 (column inputs k)) (some w1) none) [ none ↦ refl | some κ ↦ refl ]
 
   read_in2 : input_of (node_of o c s w0 w1 w2 f) in2 ≡ pick (ltb 2 (column inputs o)) (some w2) none
-  read_in2 = elim o [ none ↦ refl | some κ ↦ refl ]
+  read_in2 = elim o as (λ k. input_of (node_of k c s w0 w1 w2 f) in2 ≡ pick (ltb 2 (column inputs k)) (some w2) none) [ none ↦ refl | some κ ↦ refl ]
 
   read_out0 : output_of (node_of o c s w0 w1 w2 f) out0 ≡ pick (ltb 0 (column outputs o)) (some f) none
-  read_out0 = elim o [ none ↦ refl | some κ ↦ ap (λ (w : ℕ). pick (ltb 0 (outputs κ)) (some w) none) (omega arith) ]
+  read_out0 = elim o as (λ k. output_of (node_of k c s w0 w1 w2 f) out0 ≡ pick (ltb 0 (column outputs k)) (some f) none) [ none ↦ refl | some κ ↦ ap (λ (w : ℕ). pick (ltb 0 (outputs κ)) (some w) none) (omega arith) ]
 
   read_out1 : output_of (node_of o c s w0 w1 w2 f) out1 ≡ pick (ltb 1 (column outputs o)) (some (f + 1)) none
-  read_out1 = elim o [ none ↦ refl | some κ ↦ refl ]
+  read_out1 = elim o as (λ k. output_of (node_of k c s w0 w1 w2 f) out1 ≡ pick (ltb 1 (column outputs k)) (some (f + 1)) none) [ none ↦ refl | some κ ↦ refl ]
 
   read_step : (v : View) → step_at (node_of o c s w0 w1 w2 f) v ≡ step_by o c v
-  read_step v = elim o [ none ↦ refl | some κ ↦ refl ]
+  read_step v = elim o as (λ k. step_at (node_of k c s w0 w1 w2 f) v ≡ step_by k c v) [ none ↦ refl | some κ ↦ refl ]
 
 at_is_local : (o : Option Node) → Local (step_at o)
 at_is_local none = nothing_is_local

@@ -3,20 +3,19 @@
 -- Assumes nothing.
 use Prim.Native.Nat.{ℕ, zero, suc, ◌+◌, ◌*◌, ◌<◌}
 use mathlib.Core.Path.{◌≡◌, refl, sym, ap, ap₂, ◌∙◌}
-use mathlib.Core.Bool.{Bool, true, false, not, ◌||◌}
+use mathlib.Core.Bool.{Bool, true, not, ◌||◌}
 use mathlib.Core.List.{List}
 use mathlib.Core.Option.{Option, none, some}
 use native.Mathlib.Omega.{arith}
 use lib.ListN.{get_or, length}
-use Rattle.word.specs.Words.{pick}
 use Rattle.step.specs.Kinds.{Kind, kind_of, STREAM, GATE, CARRY, INVARIANT, SPLIT, FORK, DRAIN, OP, PICK, Input, in0, in1, in2, out0, out1}
 use Rattle.step.specs.Firing.{View}
-use Rattle.graph.specs.Graph.{Node, node_of, row_at, node_at, node_count, wire_count, row_place, has_input, has_output, wire_on, input_of, output_of}
+use Rattle.graph.specs.Graph.{Node, row_at, node_at, wire_count, row_place, has_input, has_output, wire_on, input_of, output_of}
 use Rattle.graph.proofs.Rows.{node_is_row}
 use Rattle.state.specs.State.{token, is_empty, token_at, token_on, has_room, record_at}
 use Rattle.state.specs.Net.{view, net_of}
 use Rattle.firing.specs.Acted.{Placed}
-use Rattle.firing.specs.Waiting.{waits_on, empty_at, is_none, waiting, waiting_at}
+use Rattle.firing.specs.Waiting.{waits_on, empty_at, is_none, waiting_at}
 
 -- ---- later phases
 

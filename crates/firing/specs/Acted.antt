@@ -7,8 +7,8 @@
 --                             wires, and the state's length
 --
 -- Assumes nothing.
-use Rattle.std.specs.Prelude.{ℕ, ◌+◌, ◌*◌, ◌<◌, ◌≡◌, Bool, true, false, List, ◌++◌, ltb, get_or}
-use Rattle.std.proofs.Math.Option.{Option, none, some}
+use Rattle.std.specs.Prelude.{ℕ, ◌+◌, ◌*◌, ◌<◌, ◌≡◌, true, List, ◌++◌, ltb, get_or}
+use Rattle.std.proofs.Math.Option.{none, some}
 use Rattle.word.specs.Words.{pick, word_limit}
 use Rattle.step.specs.Kinds.{kind_of, inputs, outputs, Input, Output}
 use Rattle.step.specs.Shown.{token_of}

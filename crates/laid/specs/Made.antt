@@ -285,7 +285,7 @@ module _ (t : List ℕ) (S : Structure t) where
   carried_value : (L v : ℕ) → carried t L v ≡ true → kind_at t v ≤ 6
   carried_value L v c =
       let C = carried_by t L v c in
-      subst (λ (x : ℕ). kind_at t x ≤ 6) C.is (S.operands C.row C.place C.row-Below C.place_below).is_value
+      subst (λ (x : ℕ). kind_at t x ≤ 6) C.is (S.operands C.row C.place C.row_below_lem C.place_below).is_value
 
   arg_loop : (a : ℕ) → a < size t → is_arg_row t a ≡ true → (body_of t a < size t) × (kind_at t (body_of t a) ≡ 4)
   arg_loop a l e =

@@ -195,7 +195,7 @@ module _ (t : List ℕ) (S : Structure t) where
       around : H ≢ body_of t L → body_of t L ≢ size t → holds (body_of t L) (stack_at t H) ≡ false → Reached v (body_of t L)
       around n m h =
           inr (
-            carried_is t (body_of t L) v C.row C.place n h C.row_below C.place_below C.is (further_out L (reads t C.row) less k m C.deep),
+            carried_is t (body_of t L) v C.row C.place n h C.row_below_lem C.place_below C.is (further_out L (reads t C.row) less k m C.deep),
             (S.body_loop L (omega arith) m).is_for_lem,
           )
 
@@ -228,7 +228,7 @@ module _ (t : List ℕ) (S : Structure t) where
           strict p q = omega arith
 
       go : H ≢ body_of t L → Reached v (body_of t L)
-      go n = by (subst (λ (x : ℕ). Encloses t (home t x) (reads t C.row)) C.is (S.operands C.row C.place C.row_below C.place_below).at_home)
+      go n = by (subst (λ (x : ℕ). Encloses t (home t x) (reads t C.row)) C.is (S.operands C.row C.place C.row_below_lem C.place_below).at_home)
         where
           by : Encloses t H (reads t C.row) → Reached v (body_of t L)
           by (same e) =

@@ -140,8 +140,8 @@ module _ (t : List ℕ) (S : Structure t) where
       → (r : ℕ) × (j : ℕ) × (r < size t) × (j < operand_count (kind_at t r)) × (operand t r j ≡ v) × Walks t v L (reads t r)
   carried_is_walked L v l_l kL c =
       let C = carried_by t L v c in
-      let e = subst (λ (x : ℕ). Encloses t (home t x) (reads t C.row)) C.is (S.operands C.row C.place C.row-Below C.place_below).at_home in
-      (C.row, C.place, C.row-Below, C.place_below, C.is, at (reads_body_or_rim C.row C.row-Below) C.deep C.away C.unheld e)
+      let e = subst (λ (x : ℕ). Encloses t (home t x) (reads t C.row)) C.is (S.operands C.row C.place C.row_below_lem C.place_below).at_home in
+      (C.row, C.place, C.row_below_lem, C.place_below, C.is, at (reads_body_or_rim C.row C.row_below_lem) C.deep C.away C.unheld e)
     where
       at : {B : ℕ} → (B ≡ size t) ⊎ ((B < size t) × (kind_at t B ≡ 4)) → inside t L B ≡ true → home t v ≢ L → holds L (stack_at t (home t v)) ≡ false → Encloses t (home t v) B → Walks t v L B
       at {B} (inr q) i n h e = walk_in (suc B) v L B (omega arith) q.0 q.1 l_l kL n h e i

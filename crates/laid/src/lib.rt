@@ -1,3 +1,2 @@
 // What lowering lays down is an accepted graph: theorems alone, in specs/.
 #![tactic(auto)]
-

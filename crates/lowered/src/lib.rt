@@ -1,3 +1,2 @@
 // Lowering: definitions and theorems alone, in specs/.
 #![tactic(auto)]
-

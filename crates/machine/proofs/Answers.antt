@@ -1,26 +1,24 @@
 -- The answers of the entries, path by path: what each `return` of the code has to show.
 -- Assumes nothing.
-use Prim.Native.Nat.{ℕ, zero, suc, ◌+◌, ◌*◌, ◌<◌, ◌≤◌}
+use Prim.Native.Nat.{ℕ, zero, suc, ◌<◌, ◌≤◌}
 use mathlib.Core.Path.{◌≡◌, refl, sym, ap, ◌∙◌}
 use mathlib.Core.Bool.{Bool, true, false, ◌&&◌}
 use mathlib.Core.List.{List}
-use mathlib.Core.Option.{Option, none, some}
 use native.Mathlib.Omega.{arith}
 use borrow.Author.Tests.{eq-eqb, ne_eqb, lt-ltb, le-ltb, eqb-true}
-use lib.Dec.{eqb, ltb}
+use lib.Dec.{ltb}
 use lib.ListN.{length}
 use Rattle.word.specs.Words.{pick}
 use Rattle.step.specs.Kept.{and_true}
 use Rattle.graph.specs.Below.{every}
 use Rattle.graph.specs.Graph.{node_count, wire_count}
 use Rattle.graph.specs.Refusal.{graph_refusal}
-use Rattle.graph.specs.Accepted.{Accepted, accepted}
+use Rattle.graph.specs.Accepted.{accepted}
 use Rattle.graph.specs.Wiring.{input_below_lem, output_below}
 use Rattle.state.specs.Net.{fire, is_ready, or_else, net_of}
 use Rattle.state.specs.Legal.{state_length, right_length, legal_wire, legal_node, legal}
 use Rattle.firing.specs.Acted.{Placed}
 use Rattle.machine.specs.Entries.{first, state_refusal, fire_refusal, fire_answer, fire_state, FireAnswer, fire_answers}
-use Rattle.machine.specs.declared.Fired.{Fired}
 use Rattle.machine.specs.declared.Fired.TheVariants.{Refused, NotReady, Done}
 
 -- ---- legal

@@ -1,19 +1,19 @@
 -- Loading, as the code goes: inputs counted one by one, the word of each start, each place of the state, and the answers of load.
 -- Assumes nothing.
 use Prim.Native.Nat.{ℕ, zero, suc, ◌+◌, ◌*◌, ◌/◌, ◌%◌, ◌<◌, ◌≤◌}
-use mathlib.Core.Path.{◌≡◌, refl, sym, ap, ◌∙◌, subst}
+use mathlib.Core.Path.{◌≡◌, sym, ap, ◌∙◌, subst}
 use mathlib.Core.Logic.{◌⊎◌, inl, inr}
 use mathlib.Core.Bool.{Bool, true, false}
 use mathlib.Core.List.{List}
 use native.Mathlib.Omega.{arith}
 use native.Mathlib.Decide.{ℕ_discrete}
 use borrow.Author.Tests.{eq-eqb, ne_eqb, lt-ltb, le-ltb}
-use lib.Dec.{eqb, ltb}
-use lib.ListN.{get_or, set, length, length-set}
+use lib.Dec.{eqb}
+use lib.ListN.{get_or, set, length}
 use lib.Seq.{ext_get_or, get_or-set_same, get_or-set_other}
 use Rattle.word.specs.Words.{pick, flag}
 use Rattle.graph.specs.Below.{total, total_more, total_within}
-use Rattle.graph.specs.Graph.{node_count, wire_count, start_count, start_kind_at, start_word_at, inputs_before, first_at}
+use Rattle.graph.specs.Graph.{wire_count, start_count, start_kind_at, start_word_at, inputs_before}
 use Rattle.graph.specs.Refusal.{graph_refusal}
 use Rattle.graph.specs.Accepted.{Accepted}
 use Rattle.state.specs.Legal.{state_length, right_length}

@@ -13,7 +13,7 @@
 -- Assumes nothing.
 use Rattle.std.specs.Prelude.{ℕ, ◌≡◌, refl, Bool, true, false, List, eqb, ltb, length}
 use Rattle.std.proofs.Common.{sym, ap, ◌∙◌, eqb-true}
-use Rattle.word.specs.Words.{pick, flag}
+use Rattle.word.specs.Words.{pick}
 use Rattle.graph.specs.Graph.{node_count}
 use Rattle.graph.specs.Refusal.{graph_refusal}
 use Rattle.state.specs.Net.{fire, is_ready, or_else, net_of}

@@ -1,3 +1,2 @@
 // The register's proved cases stand in specs/. Other cases are run by a program.
 #![tactic(auto)]
-

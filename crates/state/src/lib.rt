@@ -1,3 +1,2 @@
 // Definitions alone. The code stands in the crates firing, machine and run.
 #![tactic(auto)]
-

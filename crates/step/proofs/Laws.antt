@@ -8,7 +8,7 @@ use Prim.Native.Nat.{ℕ, zero, suc, ◌<◌}
 use native.Mathlib.Omega.{arith}
 use Rattle.word.specs.Words.{pick}
 use Rattle.step.specs.Kinds.{Kind, kind_of, no_kind_past_8}
-use Rattle.step.specs.Firing.{Program, stop, Effect, fillable}
+use Rattle.step.specs.Firing.{Program, stop, fillable}
 use Rattle.step.specs.Machines.{program, step, step_by, step_of}
 use Rattle.step.specs.Shown.{shown, view_of, effect_of, words_of, decided_by, decided_of, ready, when_ready, unless, ready_apart}
 use Rattle.step.specs.declared.Record.{Record}

@@ -3,13 +3,12 @@
 --   fork-copies, drain-swallows, split-routes-true, split-routes-false, invariant-opens, invariant-repeats, invariant-closes
 --
 -- Assumes nothing.
-use Rattle.std.specs.Prelude.{◌≡◌, Bool, true, false, ℕ, zero, suc}
+use Rattle.std.specs.Prelude.{◌≡◌, Bool, true, false, ℕ, suc}
 use Rattle.std.proofs.Math.Path.{refl}
-use Rattle.std.proofs.Common.{ap}
 use Rattle.std.proofs.Math.Option.{Option, none, some}
 use Rattle.step.specs.Kinds.{FORK, DRAIN, SPLIT, INVARIANT}
-use Rattle.step.specs.Firing.{View, Effect, perform}
-use Rattle.step.specs.Machines.{rest, holding, step, program}
+use Rattle.step.specs.Firing.{Effect}
+use Rattle.step.specs.Machines.{rest, holding, step}
 use Rattle.step.specs.declared.Record.{Record}
 
 abbrev doing : Bool → Bool → Option ℕ → Option ℕ → Record → Option Effect

@@ -7,16 +7,16 @@
 --
 -- Both are stated over the row's sort, once for all kinds: so FORK, DRAIN, SPLIT and INVARIANT of words and of flags share them.
 -- Assumes nothing.
-use Rattle.std.specs.Prelude.{◌≡◌, refl, Bool, true, false, not, ◌&&◌, ℕ, zero, suc, ◌<◌, ◌≤◌, ◌/◌, ◌%◌, ltb, eqb}
+use Rattle.std.specs.Prelude.{◌≡◌, refl, Bool, true, false, not, ◌&&◌, ℕ, zero, suc, ◌<◌, ◌/◌, ◌%◌, ltb, eqb}
 use Rattle.std.proofs.Common.{sym, ap, ◌∙◌, subst, arith, lt-ltb, ltb-true, ltb-false}
 use Rattle.std.proofs.Math.Option.{Option, none, some}
 use Rattle.std.proofs.Math.Dec.{eqb-suc-zero}
 use Rattle.word.specs.Words.{pick, word_limit, condition, update, operate}
-use Rattle.word.specs.Laws.{condition_flag, update_word, operate_word, operate_flag}
-use Rattle.step.specs.Kinds.{Kind, STREAM, GATE, CARRY, INVARIANT, SPLIT, FORK, DRAIN, OP, PICK, Input, in0, in1, in2, Output, out0, out1, limit, own_sorts, input_sort, output_sort, operator_sort}
+use Rattle.word.specs.Laws.{update_word, operate_word, operate_flag}
+use Rattle.step.specs.Kinds.{Kind, STREAM, GATE, CARRY, INVARIANT, SPLIT, FORK, DRAIN, OP, PICK, Input, Output, out0, out1, limit, own_sorts, input_sort, output_sort, operator_sort}
 use Rattle.step.specs.Firing.{View, Effect, Program, stop, ask, give, perform, waits, gives, fillable}
 use Rattle.step.specs.Machines.{rest, in_phase, holding, whether, stream_pair, stream, gate, carry, invariant, split, fork, drain, operator, picker, program, step}
-use Rattle.step.specs.Locality.{plain, giving_inv, asking_inv, taking_gives, taking_next}
+use Rattle.step.specs.Locality.{giving_inv, asking_inv, taking_gives, taking_next}
 use Rattle.step.specs.declared.Record.{Record}
 
 -- 'a word that fits the wire's sort, so a flag is 0 or 1'; other words are below 2^32.

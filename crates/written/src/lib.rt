@@ -1,3 +1,2 @@
 // What lowering writes, by number: theorems alone, in specs/.
 #![tactic(auto)]
-

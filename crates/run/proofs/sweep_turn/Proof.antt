@@ -2,7 +2,7 @@
 use mathlib.Core.Path.{sym, ◌∙◌}
 use native.Mathlib.Omega.{arith}
 use borrow.Author.Rules.{rules}
-use Rattle.firing.specs.Waiting.{waiting_is_not_ready}
+use Rattle.firing.proofs.NotReady.{waiting_is_not_ready}
 use Rattle.machine.proofs.Answers.{placed}
 use Rattle.run.proofs.Turns.{turn_waited}
 use Rattle.run.proofs.sweep_turn.Statement.{statement}

@@ -1,0 +1,12 @@
+use Prim.Native.Nat.{◌-◌, ◌≤◌}
+use mathlib.Core.Path.{◌≡◌}
+use Rattle.graph.specs.Below.{every_from, every}
+use Rattle.graph.specs.Graph.{node_count}
+use Rattle.graph.specs.Refusal.{node_below}
+use Rattle.graph.proofs.nodes_below.Given as goal
+
+abbrev pub invariant-loop-i : goal.invariant-loop-i
+invariant-loop-i l = (l.i ≤ l.nodes) × (every_from (l.nodes - l.i) l.i (node_below l.graph) ≡ every (node_count l.graph) (node_below l.graph))
+
+abbrev pub decreases-loop-i : goal.decreases-loop-i
+decreases-loop-i l = l.nodes - l.i

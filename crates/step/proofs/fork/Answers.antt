@@ -1,0 +1,14 @@
+-- `step::fork` meets its contract. Arm by arm: the phase fixes the program. Assumes nothing.
+use mathlib.Core.Path.{refl}
+use Rattle.step.specs.Machines.{fork}
+use Rattle.step.specs.Shown.{decided}
+use Rattle.step.proofs.Laws.{past_0}
+use Rattle.step.proofs.fork.Goals as goal
+
+pub returns-in-0 : goal.returns-in-0
+unfolding decided
+returns-in-0 c = record { decision = simp (c.in-0.is, c.some_word.ensures.token, c.some_word-in-0.ensures.token, c.fires.ensures.effect) }
+
+pub returns-in_default : goal.returns-in_default
+unfolding decided
+returns-in_default c = record { decision = rw (past_0 fork (λ p. refl) _ c.in_default.in_default-own.rest.1) }

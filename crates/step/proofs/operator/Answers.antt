@@ -1,0 +1,14 @@
+-- `step::operator` meets its contract. Arm by arm: the phase fixes the program. Assumes nothing.
+use mathlib.Core.Path.{refl}
+use Rattle.step.specs.Machines.{operator}
+use Rattle.step.specs.Shown.{decided}
+use Rattle.step.proofs.Laws.{past_0}
+use Rattle.step.proofs.operator.Goals as goal
+
+pub returns-in-0 : goal.returns-in-0
+unfolding decided
+returns-in-0 c = record { decision = simp (c.in-0.is, c.operate-value.ensures.answer, c.some_word.ensures.token, c.fires.ensures.effect) }
+
+pub returns-in_default : goal.returns-in_default
+unfolding decided
+returns-in_default c = record { decision = rw (past_0 (operator _) (λ p. refl) _ c.in_default.in_default-own.rest.1) }
