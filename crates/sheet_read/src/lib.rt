@@ -26,6 +26,9 @@ const MOST_ROWS: u32 = 512;
 
 const MOST_WORD: u32 = 4294967295;
 
+// The byte of the digit 0.
+const ZERO: u32 = 48;
+
 // A value and the place behind its text, or the first place at which the text cannot go on.
 #[derive(Clone, Copy)]
 enum Took {
@@ -121,7 +124,7 @@ fn number(text: &[u8], at: usize, least: u32, most: u32) -> Took
     let b = wide(text[at]);
     let next = at + 1;
     if begins(b, least, most) {
-        if b == 48 {
+        if b == ZERO {
             return fixed(text, next, b"\n", 0);
         }
         return digits(text, next, b - 48, most);

@@ -2,8 +2,8 @@
 -- Main names: `loops_at`; `loops_first`, `loops_last`, `loops_around`, `loops_after_for`, `loops_after_end`, `loops_after_other`, `loops_in_body`, `loops_few`; and of the
 -- body: `body_first`, `body_last`, `body_after_for`, `body_after_end`, `body_after_other`, `same_loops`.
 -- Assumes nothing.
-use Rattle.std.specs.Prelude.{ℕ, zero, suc, ◌+◌, ◌<◌, ◌≤◌, ◌≡◌, refl, ◌≢◌, List, [], ◌∷◌, length}
-use Rattle.std.proofs.Common.{sym, ap, ◌∙◌, subst, arith, ne_eqb}
+use Rattle.std.specs.Prelude.{ℕ, suc, ◌<◌, ◌≤◌, ◌≡◌, refl, ◌≢◌, List, [], ◌∷◌, length}
+use Rattle.std.proofs.Common.{sym, ap, ◌∙◌, arith, ne_eqb}
 use Rattle.std.proofs.Math.Decide.{ℕ_discrete}
 use Rattle.table.specs.Rows.{kind_at, size}
 use Rattle.table.specs.Scan.{Loop, one_arg, one_next, at_head, after, inner, stack_at, body_of, outward}

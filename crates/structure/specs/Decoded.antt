@@ -1,9 +1,8 @@
 -- A row as the table of kinds prints it, and its words: one view for both. Case analysis on it gives the kind, the row and its words at once.
 -- Main names: `Decoded`, `decoded`; the other way, `for_words`, `op_words`, `pick_words`, `arg_word`, `next_word`, `out_word`, `end_kind`.
 -- Assumes nothing.
-use Rattle.std.specs.Prelude.{ℕ, zero, suc, ◌<◌, ◌≤◌, cond, List, ◌≢◌, ◌≡◌, refl, eqb}
+use Rattle.std.specs.Prelude.{ℕ, zero, suc, ◌<◌, List, ◌≡◌, refl}
 use Rattle.std.proofs.Common.{sym, ap, ◌∙◌, arith}
-use Rattle.std.proofs.Math.Decide.{ℕ_discrete}
 use borrow.Author.Tests.{ne_eqb}
 use Rattle.table.specs.Rows.{kind_at, word}
 use Rattle.table.specs.Bodies.{Row, input, const, op, pick, for, arg, next, end, out, unknown, row_by, row_at}

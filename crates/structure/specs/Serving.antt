@@ -11,7 +11,7 @@ use native.Mathlib.Omega.{arith}
 use Rattle.std.proofs.Math.Decide.{ℕ_discrete}
 use Rattle.std.proofs.Math.Dec.{eqb}
 use Rattle.table.specs.Rows.{kind_at, size}
-use Rattle.table.specs.Scan.{Loop, opened, one_arg, one_next, at_head, outward, stack_at, body_of}
+use Rattle.table.specs.Scan.{Loop, opened, one_arg, one_next, at_head, outward, stack_at, body_of, holds}
 use Rattle.table.specs.Check.{kind_before, arg_left, all_served}
 use Rattle.table.specs.Kept.{entry_of}
 use Rattle.table.specs.Bodies.{end_of, args_from, args_of, first_of, nexts_in, arg_of, next_of}
@@ -197,7 +197,7 @@ module _ (t : List ℕ) (ok : TableRight t) where
       let w = nonempty L (stack_at t e) (S.open_in e S.below (omega arith)) in
       let lE = w.0 in
       let hE = innermost t ok e (omega (arith, S.inside)) lE w.1 w.2 in
-      let rowE : lE.row ≡ L = sym (body_is t e lE w.1 w.2) ∙ S.end_Body in
+      let rowE : lE.row ≡ L = sym (body_is t e lE w.1 w.2) ∙ S.end_body in
       let cnt : args_from (size t - suc L) t (suc L) ≡ lE.args = ap (λ (y : ℕ). args_from (size t - suc y) t (suc y)) (sym rowE) ∙ args_known e lE w.1 S.inside w.2 (λ q. omega (arith, S.end_kind)) in
       let full : lE.nexts ≡ lE.args = served_all lE w.1 (stack_at t e) w.2 (end_is_served t e (ok.row e S.inside) S.end_kind) in
       let x = e - args_from (size t - suc L) t (suc L) + (a - suc L) in
@@ -241,7 +241,7 @@ module _ (t : List ℕ) (ok : TableRight t) where
       let S = span t ok L (omega (arith, h.nexts_in_lem)) kL in
       let cnt : args_of t L ≡ m = ap (args_of t) B ∙ args_known x l s less q (λ w. omega arith) in
       let nx : nexts_in (stack_at t x) ≡ k = ap nexts_in q in
-      let on = S.open_only x (rw (q, B) (member_here l.row l s refl)) in
+      let on = S.open_only x (rw q (subst (λ (b : ℕ). holds b (l ∷ s) ≡ true) (sym B) (member_here l.row l s refl))) in
       let v = serve_on x l.row m k s less kx q z.3 (m - k) (omega arith) in
       let kE : kind_at t (x + (m - k)) ≡ 7 = v.all (omega arith) in
       let bE : body_of t (x + (m - k)) ≡ l.row = body_is t (x + (m - k)) (entry_of l.row m (k + (m - k))) s v.loops in

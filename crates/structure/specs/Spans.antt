@@ -229,7 +229,7 @@ module _ (t : List ℕ) (ok : TableRight t) where
     where
       go : (z : List Loop) → stack_at t r ≡ z → all_served z ≡ true → holds (body_of t r) (stack_at t r) ≡ true
       go [] q h = absurd (false≢true h)
-      go (l ∷ s) q h = rw (q, body_is t r l s q) (member_here l.row l s refl)
+      go (l ∷ s) q h = rw q (subst (λ (b : ℕ). holds b (l ∷ s) ≡ true) (sym (body_is t r l s q)) (member_here l.row l s refl))
 
   pub end_is_end_of : (r : ℕ) → r < size t → kind_at t r ≡ 7 → r ≡ end_of t (body_of t r)
   end_is_end_of r less k =

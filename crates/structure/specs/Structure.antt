@@ -14,7 +14,7 @@ use Rattle.table.specs.Check.{table_refusal, answer}
 use Rattle.table.specs.Bodies.{end_of, args_of, first_of}
 use Rattle.table.specs.Right.{TableRight, passing_table_is_right}
 use Rattle.structure.specs.Loops.{innermost}
-use Rattle.structure.specs.Spans.{member_here, nonempty, body_is, open_is_for, open_below, Span, span, end_stands, end_is_end_of, Encloses, inside, open_encloses, loops_nest}
+use Rattle.structure.specs.Spans.{member_here, nonempty, body_is, open_is_for, open_below, Span, span, end_stands, end_is_end_of, Encloses, open_encloses, loops_nest}
 use Rattle.structure.specs.Serving.{header_rows, header_bodies, ArgRow, arg_of_lem, NextRow, next_of_lem, args_known}
 use Rattle.structure.specs.Operands.{Operand, operand_of, ArgOperand, arg_operand_of, home_start, home_for, home_here, home_next, reads_here, reads_around}
 use Rattle.structure.specs.Order.{words_of_rows, some_rows, at_most_512_rows, known_kind, starts_first, outs_last, ends_with_out, start_outside, out_outside, nothing_left_open, at_most_eight_deep, op_code, for_codes}
@@ -91,7 +91,7 @@ module _ (t : List ℕ) (ok : TableRight t) where
       let e = end_of t L in
       let z = nonempty L (stack_at t e) (S.open_in e S.below (omega arith)) in
       let h = innermost t ok e (omega (arith, S.inside)) z.0 z.1 z.2 in
-      let row : z.0.row ≡ L = sym (body_is t e z.0 z.1 z.2) ∙ S.end_Body in
+      let row : z.0.row ≡ L = sym (body_is t e z.0 z.1 z.2) ∙ S.end_body in
       let n : args_of t L ≡ z.0.args = ap (args_of t) (sym row) ∙ args_known t ok e z.0 z.1 S.inside z.2 (λ q. omega (arith, S.end_kind)) in
       omega (arith, h.nexts_in_lem)
 
@@ -101,7 +101,7 @@ module _ (t : List ℕ) (ok : TableRight t) where
       go : (z : List Loop) → stack_at t r ≡ z → InLoop t (body_of t r) r
       go [] q = absurd (n (outer_body t r q))
       go (l ∷ s) q =
-          let o : holds (body_of t r) (stack_at t r) ≡ true = rw (q, body_is t r l s q) (member_here l.row l s refl) in
+          let o : holds (body_of t r) (stack_at t r) ≡ true = rw q (subst (λ (b : ℕ). holds b (l ∷ s) ≡ true) (sym (body_is t r l s q)) (member_here l.row l s refl)) in
           let f = open_is_for t r (body_of t r) o in
           let S = span t ok (body_of t r) (open_below t ok r (body_of t r) less o) f.1 in
           record { is_for_lem = f.1; low = f.0; high = (S.open_only r o).1 }

@@ -1,3 +1,2 @@
 // The structure of tables that pass: theorems alone, in specs/.
 #![tactic(auto)]
-
