@@ -26,7 +26,8 @@ use Rattle.run.specs.Entry.{order_below, run_refusal, run_at, run_firings, run_s
 use Rattle.run.specs.Numbers.{ran_shown, RunAnswer}
 use Rattle.run.specs.declared.Ran.{Ran}
 use Rattle.run.specs.declared.Ran.TheVariants.{Refused}
-use Rattle.confluence.specs.Statements.{run_of, made_by, run_counts_firings, runs_end_alike}
+use Rattle.confluence.specs.Statements.{run_of, made_by}
+use Rattle.confluence.proofs.Statements.{run_counts_firings, runs_end_alike}
 use Rattle.legality.specs.Legality.{firing_keeps_legal, run_keeps_legal, Words, loaded_is_legal}
 
 -- a run that is not refused has a legal state of an accepted graph

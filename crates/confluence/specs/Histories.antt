@@ -1,10 +1,8 @@
--- The words that firings put on each wire, and any order for a net.
+-- The words that firings put on each wire.
 --
 --   putOn, puts, putBy        the words that a firing puts on a wire
 --   historyOf                 the words that a list of firings puts on a wire, first to last
 --   puts-given, puts-nothing  a wire that is given a word gets that word alone; another gets none
---   net-diamond               two ready nodes may fire in either order, with the same words on each wire
---   net-rests-alike           so any order of a wired net rests alike
 --
 -- Assumes nothing.
 use Rattle.std.proofs.Math.Path.{◌≡◌, ap₂}
@@ -18,10 +16,9 @@ use Rattle.std.proofs.Math.Decide.{ℕ_discrete}
 use Rattle.word.specs.Words.{pick}
 use Rattle.step.specs.Kinds.{Output, out0, out1}
 use Rattle.step.specs.Firing.{Effect, gives}
-use Rattle.step.specs.Locality.{Local}
 use Rattle.state.specs.Net.{Net, effect_at, fire}
-use Rattle.confluence.specs.Orders.{fires, Rests, history, Alike, Diamond, orders_rest_alike}
-use Rattle.confluence.specs.Wired.{Wired, effect_of, ready_nodes_commute}
+use Rattle.confluence.specs.Orders.{history}
+use Rattle.confluence.specs.Wired.{Wired}
 
 -- the word given on an output, if that output is wire w
 abbrev pub put_on : Option ℕ → Option ℕ → ℕ → List ℕ
@@ -94,7 +91,7 @@ module _ (N : Net) (wired : Wired N) where
   nothing_first : (x y : List ℕ) → x ≡ [] → x ++ y ≡ y ++ x
   nothing_first x y e = rw e (sym (append-nil y))
 
-  puts_in_either_order : (i j : ℕ) (e f : Effect) → i ≢ j → (w : ℕ) → puts N i e w ++ puts N j f w ≡ puts N j f w ++ puts N i e w
+  pub puts_in_either_order : (i j : ℕ) (e f : Effect) → i ≢ j → (w : ℕ) → puts N i e w ++ puts N j f w ≡ puts N j f w ++ puts N i e w
   puts_in_either_order i j e f n w = go (puts_cases i e w) (puts_cases j f w)
     where
       go : (puts N i e w ≡ []) ⊎ ((k : Output) × (N.output i k ≡ some w)) → (puts N j f w ≡ []) ⊎ ((k : Output) × (N.output j k ≡ some w))
@@ -102,28 +99,3 @@ module _ (N : Net) (wired : Wired N) where
       go (inl a) b = nothing_first (puts N i e w) (puts N j f w) a
       go (inr a) (inl b) = sym (nothing_first (puts N j f w) (puts N i e w) b)
       go (inr a) (inr b) = absurd (n (wired.one_writer i j a.0 b.0 w a.1 b.1).0)
-
--- ---- any order
-
-abbrev pub Always : List ℕ → Type 0
-Always s = Unit {0}
-
-module _ (N : Net) (local : (i : ℕ) → Local (N.node i)) (wired : Wired N) where
-  pub net_diamond : Diamond (fire N) (put_at N) Always
-  net_diamond =
-      record {
-        stays_good = λ i s a good f. tt;
-        corner = λ i j s a b good n f g.
-            let c = ready_nodes_commute N local wired i j s a b n f g in
-            let x = effect_of N i s a f in
-            let y = effect_of N j s b g in
-            (c.corner, c.second, c.first, λ w. words i j s a b x.0 y.0 n x.1 y.1 (c.same_second ∙ y.1) (c.same_first ∙ x.1) w);
-      }
-    where
-      words : (i j : ℕ) (s a b : List ℕ) (e f : Effect) → i ≢ j → effect_at N i s ≡ some e → effect_at N j s ≡ some f → effect_at N j a ≡ some f → effect_at N i b ≡ some e
-          → (w : ℕ) → put_at N i s w ++ put_at N j a w ≡ put_at N j s w ++ put_at N i b w
-      words i j s a b e f n p q q' p' w = rw (p, q, q', p') (puts_in_either_order N wired i j e f n w)
-
-  pub net_rests_alike : (order : List ℕ) (s t : List ℕ) → fires (fire N) order s ≡ some t → Rests (fire N) t
-      → (other : List ℕ) (u : List ℕ) → fires (fire N) other s ≡ some u → Alike (fire N) (put_at N) order s t other u
-  net_rests_alike order s t = orders_rest_alike (fire N) (put_at N) Always net_diamond order s t tt

@@ -26,7 +26,7 @@ use Rattle.table.specs.Bodies.{operand, next_of}
 use Rattle.table.specs.Check.{answer, table_refusal}
 use Rattle.structure.specs.Structure.{Structure, in_table}
 use Rattle.lowered.specs.Gathered.{gathered, each}
-use Rattle.lowered.specs.Roles.{Role, op_node, stream, gate, guard, carry, argSplit}
+use Rattle.lowered.specs.Roles.{Role, op_node, stream, gate, guard, carry, arg_split}
 use Rattle.lowered.specs.Sources.{carried, is_op, is_for, is_arg_row}
 use Rattle.lowered.specs.Lower.{carried_into, copy, row_roles, roles, starts, outputs_by, role_outputs, role_kind, wires, plain_nodes, plain_wires, node_total, wire_total, start_total, result_total}
 use Rattle.laid.specs.Those.{those_few}
@@ -110,7 +110,7 @@ module _ (t : List ℕ) where
   unfolding row_roles
   roles_few h r = go (is_op t r) (is_for t r) (is_arg_row t r)
     where
-      go : (a b c : Bool) → length (cond a (op_node r ∷ []) (cond b (stream r ∷ gate r ∷ guard r ∷ each (copy r) (carried_into t r)) (cond c (carry r ∷ argSplit r ∷ []) []))) ≤ 1027
+      go : (a b c : Bool) → length (cond a (op_node r ∷ []) (cond b (stream r ∷ gate r ∷ guard r ∷ each (copy r) (carried_into t r)) (cond c (carry r ∷ arg_split r ∷ []) []))) ≤ 1027
       go true b c = omega arith
       go false true c = let p = length_pieces (copy r) 2 (λ v. refl) (carried_into t r) in let f = few_carried t r h in omega arith
       go false false true = omega arith

@@ -25,7 +25,7 @@ use Rattle.table.specs.Bodies.{operand, next_of}
 use Rattle.structure.specs.Structure.{Structure, in_table}
 use Rattle.lowered.specs.Gathered.{gathered, those, some?, each}
 use Rattle.lowered.specs.Lists.{Among, has_elem, below_or_last}
-use Rattle.lowered.specs.Roles.{Role, op_node, stream, gate, guard, copySplit, copyInvariant, carry, argSplit, Wire, start, output, Use}
+use Rattle.lowered.specs.Roles.{Role, op_node, stream, gate, guard, copy_split, copy_invariant, carry, arg_split, Wire, start, output, Use}
 use Rattle.lowered.specs.Sources.{names, carried, home_wire, is_op, source}
 use Rattle.lowered.specs.Lower.{carried_into, row_roles, roles, is_start, start_rows, starts, role_outputs, wires, is_out, out_rows, uses, users, fork_nodes, fork_wires, all_fork_nodes, all_fork_wires, users_each, all_users, plain_nodes, plain_wires, wire_number, node_total, wire_total}
 use Rattle.laid.specs.Lists.{those_from, those_has, position_below}
@@ -280,14 +280,14 @@ module _ (t : List ℕ) where
             (idle_used (output (guard L) out0) (guard_used t S L l k v c.0 c.1), idle_used (output (gate L) out1) (condition_used t S L l k v c.0 c.1))
 
     copies_idle : (L : ℕ) → L < size t → kind_at t L ≡ 4 → (vs : List ℕ) → ((v : ℕ) → Among v vs → (v < size t) × (carried t L v ≡ true))
-        → sum_of idle (each (λ v. output (copySplit L v) out0 ∷ output (copySplit L v) out1 ∷ output (copyInvariant L v) out0 ∷ []) vs) ≡ length vs
+        → sum_of idle (each (λ v. output (copy_split L v) out0 ∷ output (copy_split L v) out1 ∷ output (copy_invariant L v) out0 ∷ []) vs) ≡ length vs
     unfolding each
     copies_idle L l k [] f = refl
     copies_idle L l k (v ∷ vs) f =
         let c = f v (inl refl) in
-        let a = idle_used (output (copySplit L v) out0) (leg_used t S L l k v c.0 c.1) in
-        let b = idle_unused (output (copySplit L v) out1) (exit_unused t S L v) in
-        let d = idle_used (output (copyInvariant L v) out0) (copy_used t S L v l k c.1) in
+        let a = idle_used (output (copy_split L v) out0) (leg_used t S L l k v c.0 c.1) in
+        let b = idle_unused (output (copy_split L v) out1) (exit_unused t S L v) in
+        let d = idle_used (output (copy_invariant L v) out0) (copy_used t S L v l k c.1) in
         let r = copies_idle L l k vs (λ x m. f x (inr m)) in
         omega arith
 
@@ -332,7 +332,7 @@ module _ (t : List ℕ) where
         let e = copies_idle L l k (carried_into t L) (carried_in t L) in
         outputs_idle L (omega arith) ∙ ap (sum_of idle) (for_outputs t L k)
         ∙ (let z : idle (output (stream L) out0) + (idle (output (stream L) out1) + (idle (output (gate L) out0) + (idle (output (gate L) out1) + (idle (output (guard L) out0)
-        + sum_of idle (each (λ v. output (copySplit L v) out0 ∷ output (copySplit L v) out1 ∷ output (copyInvariant L v) out0 ∷ []) (carried_into t L))))))
+        + sum_of idle (each (λ v. output (copy_split L v) out0 ∷ output (copy_split L v) out1 ∷ output (copy_invariant L v) out0 ∷ []) (carried_into t L))))))
         ≡ flag (not (named_any t L)) + length (carried_into t L) + 2 * flag (eqb (length (carried_into t L)) 0) = omega arith in z)
 
     pub idle_of_arg : (a : ℕ) → a < size t → kind_at t a ≡ 5 → row_idle a ≡ flag (not (named_any t a)) + flag (not (named_any t (next_of t a)))
@@ -340,11 +340,11 @@ module _ (t : List ℕ) where
         let n = S.arg_row a l k in
         let nk = n.next_kind in
         let x = idle_used (output (carry a) out0) (carry_used t S a l k) in
-        let y : idle (output (argSplit a) out0) ≡ flag (not (named_any t a)) = ap idle (sym (home_of_arg t a k)) ∙ idle_home a l (omega arith) in
-        let h : home_wire t (next_of t a) ≡ output (argSplit a) out1 = home_of_next t (next_of t a) nk ∙ ap (λ (b : ℕ). output (argSplit b) out1) n.next_arg in
-        let z : idle (output (argSplit a) out1) ≡ flag (not (named_any t (next_of t a))) = ap idle (sym h) ∙ idle_home (next_of t a) (in_table t S (next_of t a) (λ q. omega arith)) (omega arith) in
+        let y : idle (output (arg_split a) out0) ≡ flag (not (named_any t a)) = ap idle (sym (home_of_arg t a k)) ∙ idle_home a l (omega arith) in
+        let h : home_wire t (next_of t a) ≡ output (arg_split a) out1 = home_of_next t (next_of t a) nk ∙ ap (λ (b : ℕ). output (arg_split b) out1) n.next_arg in
+        let z : idle (output (arg_split a) out1) ≡ flag (not (named_any t (next_of t a))) = ap idle (sym h) ∙ idle_home (next_of t a) (in_table t S (next_of t a) (λ q. omega arith)) (omega arith) in
         outputs_idle a (omega arith) ∙ ap (sum_of idle) (arg_outputs t a k)
-        ∙ (let q : idle (output (carry a) out0) + (idle (output (argSplit a) out0) + (idle (output (argSplit a) out1) + 0)) ≡ flag (not (named_any t a)) + flag (not (named_any t (next_of t a))) = omega arith in q)
+        ∙ (let q : idle (output (carry a) out0) + (idle (output (arg_split a) out0) + (idle (output (arg_split a) out1) + 0)) ≡ flag (not (named_any t a)) + flag (not (named_any t (next_of t a))) = omega arith in q)
 
     pub idle_of_other : (r : ℕ) → 5 < kind_at t r → row_idle r ≡ 0
     unfolding each

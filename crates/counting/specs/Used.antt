@@ -21,7 +21,7 @@ use Rattle.table.specs.Bodies.{operand, arg_of, next_of}
 use Rattle.structure.specs.Spans.{Encloses}
 use Rattle.structure.specs.Structure.{Structure, in_table}
 use Rattle.lowered.specs.Lists.{Among, none_some}
-use Rattle.lowered.specs.Roles.{Role, op_node, stream, gate, guard, copySplit, copyInvariant, carry, argSplit, Wire, start, output, Use, into, result}
+use Rattle.lowered.specs.Roles.{Role, op_node, stream, gate, guard, copy_split, copy_invariant, carry, arg_split, Wire, start, output, Use, into, result}
 use Rattle.lowered.specs.Sources.{carried, home_wire, value_wire, value, nothing, named, is_op, is_for, is_arg_row, role_feed, wire_of, source}
 use Rattle.lowered.specs.Lower.{is_out, users}
 use Rattle.laid.specs.Listed.{Real, and_true, and_both}
@@ -51,24 +51,24 @@ module _ (t : List ℕ) (S : Structure t) where
     gate_real = record { row = l; value = l; there = eq-eqb (kind_at t L) 4 k }
 
     module _ (v : ℕ) (lv : v < size t) (c : carried t L v ≡ true) where
-      split_real : Real t (copySplit L v)
+      split_real : Real t (copy_split L v)
       split_real = record { row = l; value = lv; there = and_true (is_for t L) (carried t L v) (eq-eqb (kind_at t L) 4 k) c }
 
-      copy_real : Real t (copyInvariant L v)
+      copy_real : Real t (copy_invariant L v)
       copy_real = record { row = l; value = lv; there = and_true (is_for t L) (carried t L v) (eq-eqb (kind_at t L) 4 k) c }
 
-      pub leg_used : Used (output (copySplit L v) out0)
-      leg_used = used_by (copyInvariant L v) in1 (output (copySplit L v) out0) copy_real refl
+      pub leg_used : Used (output (copy_split L v) out0)
+      leg_used = used_by (copy_invariant L v) in1 (output (copy_split L v) out0) copy_real refl
 
       pub guard_used : Used (output (guard L) out0)
-      guard_used = used_by (copySplit L v) in0 (output (guard L) out0) split_real refl
+      guard_used = used_by (copy_split L v) in0 (output (guard L) out0) split_real refl
 
       pub condition_used : Used (output (gate L) out1)
-      condition_used = used_by (copyInvariant L v) in0 (output (gate L) out1) copy_real refl
+      condition_used = used_by (copy_invariant L v) in0 (output (gate L) out1) copy_real refl
 
       -- a copy's own source
       at_copy : Used (value_wire t v (body_of t L))
-      at_copy = subst (λ (B : ℕ). Used (value_wire t v B)) (S.reads_body L (λ z. omega arith)) (used_by (copySplit L v) in1 (value_wire t v (reads t L)) split_real refl)
+      at_copy = subst (λ (B : ℕ). Used (value_wire t v B)) (S.reads_body L (λ z. omega arith)) (used_by (copy_split L v) in1 (value_wire t v (reads t L)) split_real refl)
 
     pub index_used : Used (output (stream L) out0)
     index_used = used_by (gate L) in0 (output (stream L) out0) gate_real refl
@@ -81,7 +81,7 @@ module _ (t : List ℕ) (S : Structure t) where
     carry_real = record { row = l; value = l; there = eq-eqb (kind_at t a) 5 k }
 
     pub carry_used : Used (output (carry a) out0)
-    carry_used = used_by (argSplit a) in1 (output (carry a) out0) (record { row = l; value = l; there = eq-eqb (kind_at t a) 5 k }) refl
+    carry_used = used_by (arg_split a) in1 (output (carry a) out0) (record { row = l; value = l; there = eq-eqb (kind_at t a) 5 k }) refl
 
   -- ---- operands
   at_row : (r j : ℕ) → r < size t → j < operand_count (kind_at t r) → Used (value_wire t (operand t r j) (reads t r))
@@ -175,7 +175,7 @@ module _ (t : List ℕ) (S : Structure t) where
   unfolding value_wire
   at_home_wire v = rw (eq-eqb (home t v) (home t v) refl)
 
-  away_wire : (v B : ℕ) → home t v ≢ B → value_wire t v B ≡ output (copyInvariant B v) out0
+  away_wire : (v B : ℕ) → home t v ≢ B → value_wire t v B ≡ output (copy_invariant B v) out0
   unfolding value_wire
   away_wire v B n = rw (ne_eqb (home t v) B n)
 
@@ -184,7 +184,7 @@ module _ (t : List ℕ) (S : Structure t) where
   value_used r j l h = subst Used (at_home_wire (operand t r j)) (home_used r j l h)
 
   -- A COPY IS USED
-  pub copy_used : (L v : ℕ) → L < size t → kind_at t L ≡ 4 → carried t L v ≡ true → Used (output (copyInvariant L v) out0)
+  pub copy_used : (L v : ℕ) → L < size t → kind_at t L ≡ 4 → carried t L v ≡ true → Used (output (copy_invariant L v) out0)
   copy_used L v l k c =
       let w = carried_is_walked t S L v l k c in
       let n = (carried_by t L v c).away in
@@ -199,7 +199,7 @@ module _ (t : List ℕ) (S : Structure t) where
     by_stream : (L : ℕ) (o : Output) → w ≡ output (stream L) o → Fed w
     by_guard : (L v : ℕ) → v < size t → carried t L v ≡ true → w ≡ output (guard L) out0 → Fed w
     by_gate : (L v : ℕ) → v < size t → carried t L v ≡ true → w ≡ output (gate L) out1 → Fed w
-    by_leg : (L v : ℕ) → w ≡ output (copySplit L v) out0 → Fed w
+    by_leg : (L v : ℕ) → w ≡ output (copy_split L v) out0 → Fed w
     by_carry : (a : ℕ) → w ≡ output (carry a) out0 → Fed w
 
   is : {x w : Wire} → ◌≡◌ {A = Option Wire} (some x) (some w) → w ≡ x
@@ -244,18 +244,18 @@ module _ (t : List ℕ) (S : Structure t) where
   fed_from (guard L) in0 w l e = loop_fed L 0 w l.row l.there (omega arith) e
   fed_from (guard L) in1 w l e = loop_fed L 2 w l.row l.there (omega arith) e
   fed_from (guard L) in2 w l e = none_some w e
-  fed_from (copySplit L v) in0 w l e = by_guard L v l.value (and_both (is_for t L) (carried t L v) l.there).1 (is e)
-  fed_from (copySplit L v) in1 w l e = by_copy L v (and_both (is_for t L) (carried t L v) l.there).1 (is e)
-  fed_from (copySplit L v) in2 w l e = none_some w e
-  fed_from (copyInvariant L v) in0 w l e = by_gate L v l.value (and_both (is_for t L) (carried t L v) l.there).1 (is e)
-  fed_from (copyInvariant L v) in1 w l e = by_leg L v (is e)
-  fed_from (copyInvariant L v) in2 w l e = none_some w e
+  fed_from (copy_split L v) in0 w l e = by_guard L v l.value (and_both (is_for t L) (carried t L v) l.there).1 (is e)
+  fed_from (copy_split L v) in1 w l e = by_copy L v (and_both (is_for t L) (carried t L v) l.there).1 (is e)
+  fed_from (copy_split L v) in2 w l e = none_some w e
+  fed_from (copy_invariant L v) in0 w l e = by_gate L v l.value (and_both (is_for t L) (carried t L v) l.there).1 (is e)
+  fed_from (copy_invariant L v) in1 w l e = by_leg L v (is e)
+  fed_from (copy_invariant L v) in2 w l e = none_some w e
   fed_from (carry a) in0 w l e = by_stream (body_of t a) out1 (is e)
   fed_from (carry a) in1 w l e = arg_fed a w l.row l.there e
   fed_from (carry a) in2 w l e = next_fed a w l.row l.there e
-  fed_from (argSplit a) in0 w l e = by_stream (body_of t a) out1 (is e)
-  fed_from (argSplit a) in1 w l e = by_carry a (is e)
-  fed_from (argSplit a) in2 w l e = none_some w e
+  fed_from (arg_split a) in0 w l e = by_stream (body_of t a) out1 (is e)
+  fed_from (arg_split a) in1 w l e = by_carry a (is e)
+  fed_from (arg_split a) in2 w l e = none_some w e
 
   out_fed : (q : ℕ) (w : Wire) → q < size t → is_out t q ≡ true → ◌≡◌ {A = Option Wire} (some (value_wire t (operand t q 0) (reads t q))) (some w) → Fed w
   unfolding operand_count
@@ -279,11 +279,11 @@ module _ (t : List ℕ) (S : Structure t) where
   value_of (output (stream L) o) = 0
   value_of (output (gate L) o) = L
   value_of (output (guard L) o) = 0
-  value_of (output (copySplit L v) o) = 0
-  value_of (output (copyInvariant L v) o) = 0
+  value_of (output (copy_split L v) o) = 0
+  value_of (output (copy_invariant L v) o) = 0
   value_of (output (carry a) o) = 0
-  value_of (output (argSplit a) out0) = a
-  value_of (output (argSplit a) out1) = next_of t a
+  value_of (output (arg_split a) out0) = a
+  value_of (output (arg_split a) out1) = next_of t a
 
   -- at home it is none of these
   abbrev Plain : ℕ → Type 0
@@ -308,12 +308,12 @@ module _ (t : List ℕ) (S : Structure t) where
       go (suc (suc zero)) e h = with_wire (output (op_node v) out0) (home_of_op t v (inl e)) (inr (inl refl)) refl
       go (suc (suc (suc zero))) e h = with_wire (output (op_node v) out0) (home_of_op t v (inr e)) (inr (inl refl)) refl
       go (suc (suc (suc (suc zero)))) e h = with_wire (output (gate v) out0) (home_of_for t v e) (inr (inr (inl refl))) refl
-      go (suc (suc (suc (suc (suc zero))))) e h = with_wire (output (argSplit v) out0) (home_of_arg t v e) (inr (inr (inr (inl refl)))) refl
-      go (suc (suc (suc (suc (suc (suc zero)))))) e h = with_wire (output (argSplit (arg_of t v)) out1) (home_of_next t v e) (inr (inr (inr (inr refl)))) (S.next_row v l e).arg_next
+      go (suc (suc (suc (suc (suc zero))))) e h = with_wire (output (arg_split v) out0) (home_of_arg t v e) (inr (inr (inr (inl refl)))) refl
+      go (suc (suc (suc (suc (suc (suc zero)))))) e h = with_wire (output (arg_split (arg_of t v)) out1) (home_of_next t v e) (inr (inr (inr (inr refl)))) (S.next_row v l e).arg_next
       go (suc (suc (suc (suc (suc (suc (suc k))))))) e h = absurd (omega arith)
 
   -- a value in a body: at home, or a copy
-  value_cases : (v B : ℕ) → (value_wire t v B ≡ home_wire t v) ⊎ (value_wire t v B ≡ output (copyInvariant B v) out0)
+  value_cases : (v B : ℕ) → (value_wire t v B ≡ home_wire t v) ⊎ (value_wire t v B ≡ output (copy_invariant B v) out0)
   value_cases v B = elim (ℕ_discrete (home t v) B) [ yes e ↦ inl (subst (λ (x : ℕ). value_wire t v x ≡ home_wire t v) e (at_home_wire v)) | no e ↦ inr (away_wire v B e) ]
 
   -- a named value, its row and kind
@@ -332,16 +332,16 @@ module _ (t : List ℕ) (S : Structure t) where
       ]
 
   -- THE FALSE LEG OF A COPY'S SPLIT IS NOT USED
-  pub exit_unused : (L v : ℕ) → Used (output (copySplit L v) out1) → ⊥
-  exit_unused L v u = go (used_fed (output (copySplit L v) out1) u)
+  pub exit_unused : (L v : ℕ) → Used (output (copy_split L v) out1) → ⊥
+  exit_unused L v u = go (used_fed (output (copy_split L v) out1) u)
     where
       no_value : Plain 8 ⊎ (◌≡◌ {A = ℕ} 8 9) → ⊥
       no_value (inl p) = p.5 refl
       no_value (inr e) = omega arith
 
-      go : Fed (output (copySplit L v) out1) → ⊥
-      go (by_row r j l h e) = no_value (not_value (output (copySplit L v) out1) (operand t r j) (reads t r) (operand_value r j l h) e)
-      go (by_copy M x c e) = no_value (not_value (output (copySplit L v) out1) x (reads t M) (copied_value M x c) e)
+      go : Fed (output (copy_split L v) out1) → ⊥
+      go (by_row r j l h e) = no_value (not_value (output (copy_split L v) out1) (operand t r j) (reads t r) (operand_value r j l h) e)
+      go (by_copy M x c e) = no_value (not_value (output (copy_split L v) out1) x (reads t M) (copied_value M x c) e)
       go (by_stream M out0 e) = let z : ◌≡◌ {A = ℕ} 8 2 = ap wire_what e in omega arith
       go (by_stream M out1 e) = let z : ◌≡◌ {A = ℕ} 8 3 = ap wire_what e in omega arith
       go (by_guard M x l c e) = let z : ◌≡◌ {A = ℕ} 8 6 = ap wire_what e in omega arith

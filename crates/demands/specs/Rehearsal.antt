@@ -33,7 +33,8 @@ use Rattle.run.specs.Entry.{order_below, run_refusal, run_at, run_state, run_fir
 use Rattle.run.specs.Numbers.{ran_shown}
 use Rattle.run.specs.declared.Ran.{Ran}
 use Rattle.run.specs.declared.Ran.TheVariants.{Complete, Refused, ZeroStep, Stranded, Spent}
-use Rattle.confluence.specs.Statements.{run_of, made_by, run_is_an_order}
+use Rattle.confluence.specs.Statements.{run_of, made_by}
+use Rattle.confluence.proofs.Statements.{run_is_an_order}
 use Rattle.legality.specs.Legality.{Words}
 use Rattle.answers.specs.Answers.{load_leaves_right}
 use Rattle.table.specs.Rows.{size, INPUT}

@@ -13,7 +13,7 @@ use Rattle.step.specs.Kinds.{Output, out0, out1}
 use Rattle.step.specs.Machines.{rest}
 use Rattle.state.specs.Net.{Net}
 use Rattle.lowered.specs.Lists.{Among, Once}
-use Rattle.lowered.specs.Roles.{Role, op_node, stream, gate, guard, copySplit, copyInvariant, carry, argSplit, Wire, start, output, Use}
+use Rattle.lowered.specs.Roles.{Role, op_node, stream, gate, guard, copy_split, copy_invariant, carry, arg_split, Wire, start, output, Use}
 use Rattle.uses.specs.Machine.{State}
 use Rattle.uses.specs.Wires.{Tokens, Steps2, steps2_append, puts2, puts2_both, Spreads, spread}
 use Rattle.uses.specs.Layout.{Layout, Made, Tree, UseOf, Shown, use_in_tree, use_tree, among_use}
@@ -157,10 +157,10 @@ module _ (tb : Table) (net : Net) (y : Layout (plan tb) net) (env : Env) where
       rin (stream L) rl l = absurd (no_loop L rl l.0)
       rin (gate L) rl l = absurd (no_loop L rl l.0)
       rin (guard L) rl l = refl
-      rin (copySplit L v) rl l = refl
-      rin (copyInvariant L v) rl l = absurd (no_loop L rl.0 l.0)
+      rin (copy_split L v) rl l = refl
+      rin (copy_invariant L v) rl l = absurd (no_loop L rl.0 l.0)
       rin (carry a) rl l = absurd (no_loop (tb.loop a) (g.arg_for a rl.0 rl.1) l.0)
-      rin (argSplit a) rl l = refl
+      rin (arg_split a) rl l = refl
 
       off : (p : Use) (v B c : ℕ) (w : Wire) → slot tb p ≡ val v B c → wire_of tb v B ≡ w → start_tok (some w) ≡ none → (Live tb v B c 0 → ⊥) → Shows tb (state0.tok p) v B c 0 env
       off p v B c w q e h n = shows_none tb (state0.tok p) v B c 0 env (ap (λ (z : Slot). start_tok (slot_wire tb z)) q ∙ ap (λ (z : Wire). start_tok (some z)) e ∙ h) n
@@ -171,6 +171,6 @@ module _ (tb : Table) (net : Net) (y : Layout (plan tb) net) (env : Env) where
           shows_some tb (state0.tok p) v B c 0 env (ap (λ (z : Slot). start_tok (slot_wire tb z)) q ∙ ap (λ (z : Wire). start_tok (some z)) w) (omega arith, omega arith, omega arith, omega arith)
       go p v B c q (from_op w h t z) = off p v B c (output (op_node v) out0) q w refl (λ l. let l2 = l.2 in omega arith)
       go p v B c q (from_for w h t z) = off p v B c (output (gate v) out0) q w refl (λ l. no_loop B (subst (IsFor tb) (sym (g.for_home v t) ∙ h) t) l.0)
-      go p v B c q (from_arg i w h t z) = off p v B c (output (argSplit v) out0) q w refl (λ l. no_loop B (subst (IsFor tb) (sym (g.arg_home v i t) ∙ h) (g.arg_for v i t)) l.0)
-      go p v B c q (from_next x w h t z) = off p v B c (output (argSplit (tb.arg_of v)) out1) q w refl (λ l. let l2 = l.2 in omega arith)
-      go p v B c q (from_copy w h z) = off p v B c (output (copyInvariant B v) out0) q w refl (λ l. no_loop B (g.in_for B v ((g.uses p v B c q).away h)) l.0)
+      go p v B c q (from_arg i w h t z) = off p v B c (output (arg_split v) out0) q w refl (λ l. no_loop B (subst (IsFor tb) (sym (g.arg_home v i t) ∙ h) (g.arg_for v i t)) l.0)
+      go p v B c q (from_next x w h t z) = off p v B c (output (arg_split (tb.arg_of v)) out1) q w refl (λ l. let l2 = l.2 in omega arith)
+      go p v B c q (from_copy w h z) = off p v B c (output (copy_invariant B v) out0) q w refl (λ l. no_loop B (g.in_for B v ((g.uses p v B c q).away h)) l.0)

@@ -240,13 +240,13 @@ module _ (t : List ℕ) (S : Structure t) where
   -- ---- what is carried in was there before
   module _ (L v : ℕ) (c : CarriedBy L v) where
     value : kind_at t v ≤ 6
-    value = subst (λ (z : ℕ). kind_at t z ≤ 6) c.is_operand (S.operands c.row c.place c.row_below c.place_below).is_value
+    value = subst (λ (z : ℕ). kind_at t z ≤ 6) c.is_operand (S.operands c.row c.place c.row_below_lem c.place_below).is_value
 
     before_row : v < c.row
-    before_row = subst (λ (z : ℕ). z < c.row) c.is_operand (S.operands c.row c.place c.row_below c.place_below).before
+    before_row = subst (λ (z : ℕ). z < c.row) c.is_operand (S.operands c.row c.place c.row_below_lem c.place_below).before
 
     passed : kind_at t v ≡ 6 → end_of t (body_of t v) < c.row
-    passed = subst (λ (z : ℕ). kind_at t z ≡ 6 → end_of t (body_of t z) < c.row) c.is_operand (S.operands c.row c.place c.row_below c.place_below).passed
+    passed = subst (λ (z : ℕ). kind_at t z ≡ 6 → end_of t (body_of t z) < c.row) c.is_operand (S.operands c.row c.place c.row_below_lem c.place_below).passed
 
     -- a value born in L is at home in L, or is a NEXT of L, which L's rows do not see
     not_in : L < v → ⊥
@@ -259,7 +259,7 @@ module _ (t : List ℕ) (S : Structure t) where
         b1 = c.in_loop_lem.1
 
         lv : v < size t
-        lv = let a = before_row in let b = c.row_below in omega arith
+        lv = let a = before_row in let b = c.row_below_lem in omega arith
 
         hi : v ≤ end_of t L
         hi = let a = before_row in let b = b1 in omega arith
@@ -319,7 +319,7 @@ module _ (t : List ℕ) (S : Structure t) where
 
     -- its home lies around L: it is the body around L, or carried into that
     home_around : Encloses t (home t v) (body_of t L)
-    home_around = go (subst (λ (z : ℕ). Encloses t (home t z) (reads t c.row)) c.is_operand (S.operands c.row c.place c.row_below c.place_below).at_home)
+    home_around = go (subst (λ (z : ℕ). Encloses t (home t z) (reads t c.row)) c.is_operand (S.operands c.row c.place c.row_below_lem c.place_below).at_home)
       where
         go : Encloses t (home t v) (reads t c.row) → Encloses t (home t v) (body_of t L)
         go (outermost e) = outermost e
@@ -362,7 +362,7 @@ module _ (t : List ℕ) (S : Structure t) where
 
         make : (kind_at t (body_of t L) ≡ 4) → body_of t L < size t → ((home t v < body_of t L) ⊎ (home t v ≡ size t)) → tb.carried (body_of t L) v ≡ true
         make k lB d =
-            by_carried (body_of t L) v c.row c.place k c.row_below c.place_below c.is_operand (within (body_of t L) k lB refl) (outside_of (body_of t L) (home t v) k lB d)
+            by_carried (body_of t L) v c.row c.place k c.row_below_lem c.place_below c.is_operand (within (body_of t L) k lB refl) (outside_of (body_of t L) (home t v) k lB d)
 
         go : Encloses t (home t v) (body_of t L) → (body_of t L ≡ size t) ⊎ ((body_of t L < size t) × (kind_at t (body_of t L) ≡ 4)) → tb.carried (body_of t L) v ≡ true
         go (same e) k = absurd (n e)

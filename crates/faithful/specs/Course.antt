@@ -18,7 +18,7 @@ use Rattle.step.specs.Firing.{Effect, perform}
 use Rattle.step.specs.Machines.{rest, holding}
 use Rattle.step.specs.declared.Record.{Record}
 use Rattle.table.specs.Bodies.{Row, for, arg, next}
-use Rattle.lowered.specs.Roles.{Role, stream, gate, guard, copySplit, copyInvariant, carry, argSplit, output, Use, into}
+use Rattle.lowered.specs.Roles.{Role, stream, gate, guard, copy_split, copy_invariant, carry, arg_split, output, Use, into}
 use Rattle.uses.specs.Machine.{State, give_by, take_by, next_by, put, unless_taken, listed, given, taken, Ready}
 use Rattle.faithful.specs.Table.{Table, val, inner, absent, IsFor, wire_of, since, slot, Real, program_of, plan}
 use Rattle.faithful.specs.Members.{in_loop}
@@ -28,7 +28,7 @@ use Rattle.faithful.specs.Rows.{sight, put_drop_none, real_body, recs_same, toke
 use Rattle.faithful.specs.Loop.{only, reads_not, Fill, fills_index, fills_arg, fills_copy, fills_exit, fills_none, fill, Taking, taken_by, taken_by_none, takes_yes, taking}
 use Rattle.faithful.specs.Stages.{drop_none, drop_either, put_none, no_gift, put_late, put_nothing, Effects, Link, tokv, own_in, by_role, real_in, ready_all, Runs, to_runs, S1, S2, S3, at1, at2, inner3, room2, room3, own2, own3, own_still, fired3, hist3, say_if}
 use Rattle.faithful.specs.Ports.{Port, link, waits, nothing, port, PortIs, port_is, kinds}
-use Rattle.faithful.specs.Turn.{From, atFor, atEnd, To, turn, exit, row_of, body_of, row_to, words_to, Stays, and_both, is_next, nexts_to, nexts_same, turn_env, turn_low, turn_idx, turn_arg, begins_edge, leads_edge, live_same, word_same, inside_same, outer_same, gone, body_live, exit_live, scope_not}
+use Rattle.faithful.specs.Turn.{From, at_a_for, at_an_end, To, turn, exit, row_of, body_of, row_to, words_to, Stays, and_both, is_next, nexts_to, nexts_same, turn_env, turn_low, turn_idx, turn_arg, begins_edge, leads_edge, live_same, word_same, inside_same, outer_same, gone, body_live, exit_live, scope_not}
 
 -- ---- tests on tables
 
@@ -47,10 +47,10 @@ never t1 t2 t3 = not t1 && (not t2 && not t3)
 
 -- at which stages a step takes a use that waits until a row: of the row where it begins, before the loop gives there; of the other, never
 abbrev pub takes_rightly : (from at : From) → Bool → Bool → Bool → Bool
-takes_rightly atFor atFor t1 t2 t3 = (t1 || t2) && not t3
-takes_rightly atFor atEnd t1 t2 t3 = never t1 t2 t3
-takes_rightly atEnd atFor t1 t2 t3 = never t1 t2 t3
-takes_rightly atEnd atEnd t1 t2 t3 = t1 && (not t2 && not t3)
+takes_rightly at_a_for at_a_for t1 t2 t3 = (t1 || t2) && not t3
+takes_rightly at_a_for at_an_end t1 t2 t3 = never t1 t2 t3
+takes_rightly at_an_end at_a_for t1 t2 t3 = never t1 t2 t3
+takes_rightly at_an_end at_an_end t1 t2 t3 = t1 && (not t2 && not t3)
 
 finds_none : (o t : Option ℕ) (y : ℕ) → finds o t ≡ true → o ≡ some y → t ≡ none
 finds_none none t y h e = let z : ◌≡◌ {A = ℕ} 0 1 = cc in absurd (omega arith)
@@ -72,10 +72,10 @@ never_taken : (t1 t2 t3 : Bool) → never t1 t2 t3 ≡ true → (t1 ≡ false) �
 never_taken t1 t2 t3 h = let x = and_three (not t1) (not t2) (not t3) h in (not_true t1 x.0, not_true t2 x.1, not_true t3 x.2)
 
 not_late : (from at : From) (t1 t2 t3 : Bool) → takes_rightly from at t1 t2 t3 ≡ true → t3 ≡ false
-not_late atFor atFor t1 t2 t3 h = not_true t3 (and_both (t1 || t2) (not t3) h).1
-not_late atFor atEnd t1 t2 t3 h = (never_taken t1 t2 t3 h).2
-not_late atEnd atFor t1 t2 t3 h = (never_taken t1 t2 t3 h).2
-not_late atEnd atEnd t1 t2 t3 h = not_true t3 (and_three t1 (not t2) (not t3) h).2
+not_late at_a_for at_a_for t1 t2 t3 h = not_true t3 (and_both (t1 || t2) (not t3) h).1
+not_late at_a_for at_an_end t1 t2 t3 h = (never_taken t1 t2 t3 h).2
+not_late at_an_end at_a_for t1 t2 t3 h = (never_taken t1 t2 t3 h).2
+not_late at_an_end at_an_end t1 t2 t3 h = not_true t3 (and_three t1 (not t2) (not t3) h).2
 
 module _ (tb : Table) (g : Good tb) (L s t b u c : ℕ) (q : tb.row L ≡ for s t b u c) (env : Env) where
   abbrev isfor : IsFor tb L
@@ -83,8 +83,8 @@ module _ (tb : Table) (g : Good tb) (L s t b u c : ℕ) (q : tb.row L ≡ for s 
 
   -- what a node of the loop holds where the step begins, and where it leads
   abbrev pub holds : From → Role → Record
-  holds atFor n = rest
-  holds atEnd n = held tb n env
+  holds at_a_for n = rest
+  holds at_an_end n = held tb n env
 
   abbrev pub holds_to : To → Role → Record
   holds_to (turn x h) n = held tb n (turn_env tb L x h env)
@@ -109,10 +109,10 @@ module _ (tb : Table) (g : Good tb) (L s t b u c : ℕ) (q : tb.row L ≡ for s 
 
   -- the word of a use that waits until a row, where the step begins
   abbrev pub word_at : (from at : From) → ℕ → Option ℕ
-  word_at atFor atFor v = some (env v)
-  word_at atFor atEnd v = none
-  word_at atEnd atFor v = none
-  word_at atEnd atEnd v = some (env v)
+  word_at at_a_for at_a_for v = some (env v)
+  word_at at_a_for at_an_end v = none
+  word_at at_an_end at_a_for v = none
+  word_at at_an_end at_an_end v = some (env v)
 
   module _ (from : From) (to : To) (e1 e2 e3 : Effects) where
     -- what the stages leave on a link to output o of m, whose other end is taken at them or not
@@ -172,14 +172,14 @@ module _ (tb : Table) (g : Good tb) (L s t b u c : ℕ) (q : tb.row L ≡ for s 
       pub of_stream : Fits (stream L)
       pub of_gate : Fits (gate L)
       pub of_guard : Fits (guard L)
-      pub of_split : (v : ℕ) → tb.carried L v ≡ true → Fits (copySplit L v)
-      pub of_invariant : (v : ℕ) → tb.carried L v ≡ true → Fits (copyInvariant L v)
+      pub of_split : (v : ℕ) → tb.carried L v ≡ true → Fits (copy_split L v)
+      pub of_invariant : (v : ℕ) → tb.carried L v ≡ true → Fits (copy_invariant L v)
       pub of_carry : (a i : ℕ) → tb.row a ≡ arg i → tb.loop a ≡ L → Fits (carry a)
-      pub of_arg : (a i : ℕ) → tb.row a ≡ arg i → tb.loop a ≡ L → Fits (argSplit a)
+      pub of_arg : (a i : ℕ) → tb.row a ≡ arg i → tb.loop a ≡ L → Fits (arg_split a)
       pub index : Gives (gate L) out0 (due_index to)
-      pub args : (a : ℕ) → Gives (argSplit a) out0 (due_arg to a)
-      pub copies : (v : ℕ) → Gives (copyInvariant L v) out0 (due_copy to v)
-      pub nexts : (v : ℕ) → Gives (argSplit (tb.arg_of v)) out1 (due_next to v)
+      pub args : (a : ℕ) → Gives (arg_split a) out0 (due_arg to a)
+      pub copies : (v : ℕ) → Gives (copy_invariant L v) out0 (due_copy to v)
+      pub nexts : (v : ℕ) → Gives (arg_split (tb.arg_of v)) out1 (due_next to v)
 
   -- ---- THE STEP
   module _ (from : From) (to : To) (e1 e2 e3 : Effects) (C : Course from to e1 e2 e3) (σ : State) (G : Gamma tb (row_of tb L from) env σ) where
@@ -230,12 +230,12 @@ module _ (tb : Table) (g : Good tb) (L s t b u c : ℕ) (q : tb.row L ≡ for s 
     begins n h = go (kinds tb g L s t b u c q n h)
       where
         in_body : (f : From) → Gamma tb (row_of tb L f) env σ → scope tb n ≡ L → σ.own n ≡ holds f n
-        in_body atFor H e = H.records_out n (real_in tb g L isfor n h) (not_yet (scope tb n) e)
-        in_body atEnd H e = H.records_in n (real_in tb g L isfor n h) (subst (λ (z : ℕ). Inside tb z (tb.last L)) (sym e) in_last)
+        in_body at_a_for H e = H.records_out n (real_in tb g L isfor n h) (not_yet (scope tb n) e)
+        in_body at_an_end H e = H.records_in n (real_in tb g L isfor n h) (subst (λ (z : ℕ). Inside tb z (tb.last L)) (sym e) in_last)
 
         at_rest_lem : (f : From) → held tb n env ≡ rest → rest ≡ holds f n
-        at_rest_lem atFor e = refl
-        at_rest_lem atEnd e = sym e
+        at_rest_lem at_a_for e = refl
+        at_rest_lem at_an_end e = sym e
 
         go : (scope tb n ≡ L) ⊎ ((e : Env) → held tb n e ≡ rest) → σ.own n ≡ holds from n
         go (inl e) = in_body from G e
@@ -284,9 +284,9 @@ module _ (tb : Table) (g : Good tb) (L s t b u c : ℕ) (q : tb.row L ≡ for s 
       where
         go : Fill tb g L isfor v B → Fate to v B
         go (fills_index a e z m) = index_fate to v B (on v B (gate L) out0 (due_index to) m C.index) a e z
-        go (fills_arg i a l e z m) = arg_fate to v B i (on v B (argSplit v) out0 (due_arg to v) m (C.args v)) a l e z
-        go (fills_copy a e z m) = copy_fate to v B (on v B (copyInvariant L v) out0 (due_copy to v) m (C.copies v)) a e z
-        go (fills_exit x a l e w z m) = next_fate to v B x (on v B (argSplit (tb.arg_of v)) out1 (due_next to v) m (C.nexts v)) a l e z
+        go (fills_arg i a l e z m) = arg_fate to v B i (on v B (arg_split v) out0 (due_arg to v) m (C.args v)) a l e z
+        go (fills_copy a e z m) = copy_fate to v B (on v B (copy_invariant L v) out0 (due_copy to v) m (C.copies v)) a e z
+        go (fills_exit x a l e w z m) = next_fate to v B x (on v B (arg_split (tb.arg_of v)) out1 (due_next to v) m (C.nexts v)) a l e z
         go (fills_none a l m) = none_fate to v B (m e1, ap₂ finds (m e3) (m e2), ap₂ put (m e3) (m e2)) a l
 
     on_first : (p : Use) (v B d : ℕ) → slot tb p ≡ val v B d → gave e1 v B ≡ none
@@ -322,8 +322,8 @@ module _ (tb : Table) (g : Good tb) (L s t b u c : ℕ) (q : tb.row L ≡ for s 
         by_port n k e h nothing i y = let z : absent ≡ val v B d = sym i ∙ ap (slot tb) (sym e) ∙ r in let z : ◌≡◌ {A = ℕ} 0 1 = cc in absurd (omega arith)
 
         neither : d ≢ L → d ≢ tb.last L → (f : From) → d ≢ row_of tb L f
-        neither a x atFor = a
-        neither a x atEnd = x
+        neither a x at_a_for = a
+        neither a x at_an_end = x
 
         go : Taking tb g L isfor p d → Waiting p B d
         go (taken_by n k e h) =
@@ -345,23 +345,23 @@ module _ (tb : Table) (g : Good tb) (L s t b u c : ℕ) (q : tb.row L ≡ for s 
     vacated p v B d r w = after1 p v B d r ∙ go w
       where
         unborn : (f : From) → Gamma tb (row_of tb L f) env σ → since tb v B ≡ suc (tb.last L) → σ.tok p ≡ none
-        unborn atFor H z = let ff = g.for_first L isfor in let fl = g.for_last L isfor in (H.values p v B d r).off (λ l. let l2 = l.2 in omega arith)
-        unborn atEnd H z = (H.values p v B d r).off (λ l. let l2 = l.2 in omega arith)
+        unborn at_a_for H z = let ff = g.for_first L isfor in let fl = g.for_last L isfor in (H.values p v B d r).off (λ l. let l2 = l.2 in omega arith)
+        unborn at_an_end H z = (H.values p v B d r).off (λ l. let l2 = l.2 in omega arith)
 
         passed : (f : From) → Gamma tb (row_of tb L f) env σ → B ≡ L → d ≢ row_of tb L f → σ.tok p ≡ none
-        passed atFor H e n = (H.values p v B d r).off (λ l. not_yet B e (l.0, l.1))
-        passed atEnd H e n =
+        passed at_a_for H e n = (H.values p v B d r).off (λ l. not_yet B e (l.0, l.1))
+        passed at_an_end H e n =
             let hi : d ≤ tb.last B = (g.uses p v B d r).place.high in
             let le : tb.last B ≡ tb.last L = ap tb.last e in
             (H.values p v B d r).off (λ l. let l3 : tb.last L ≤ d = l.3 in omega arith)
 
-        ended : (f : From) → Gamma tb (row_of tb L f) env σ → B ≡ L → takes_rightly f atEnd (took e1 p) (took e2 p) (took e3 p) ≡ true → unless_taken (took e1 p) (σ.tok p) ≡ none
-        ended atFor H e k = drop_none (took e1 p) (σ.tok p) ((H.values p v B d r).off (λ l. not_yet B e (l.0, l.1)))
-        ended atEnd H e k = ap (λ (z : Bool). unless_taken z (σ.tok p)) (and_three (took e1 p) (not (took e2 p)) (not (took e3 p)) k).0
+        ended : (f : From) → Gamma tb (row_of tb L f) env σ → B ≡ L → takes_rightly f at_an_end (took e1 p) (took e2 p) (took e3 p) ≡ true → unless_taken (took e1 p) (σ.tok p) ≡ none
+        ended at_a_for H e k = drop_none (took e1 p) (σ.tok p) ((H.values p v B d r).off (λ l. not_yet B e (l.0, l.1)))
+        ended at_an_end H e k = ap (λ (z : Bool). unless_taken z (σ.tok p)) (and_three (took e1 p) (not (took e2 p)) (not (took e3 p)) k).0
 
         in_body : B ≡ L → Waiting p B d → unless_taken (took e1 p) (σ.tok p) ≡ none
-        in_body e (until atFor x y k) = absurd (reads_not tb g L isfor (sym y ∙ e))
-        in_body e (until atEnd x y k) = ended from G e k
+        in_body e (until at_a_for x y k) = absurd (reads_not tb g L isfor (sym y ∙ e))
+        in_body e (until at_an_end x y k) = ended from G e k
         in_body e (elsewhere n y) = drop_none (took e1 p) (σ.tok p) (passed from G e (n from))
 
         go : Vacant v B → unless_taken (took e1 p) (σ.tok p) ≡ none
@@ -380,10 +380,10 @@ module _ (tb : Table) (g : Good tb) (L s t b u c : ℕ) (q : tb.row L ≡ for s 
         -- taken, if it waits until the row where the step begins
         settled : (f at : From) → takes_rightly f at (took e1 p) (took e2 p) (took e3 p) ≡ true → d ≡ row_of tb L at
             → (unless_taken (took e2 p) (unless_taken (took e1 p) (σ.tok p)) ≡ none) ⊎ ((d ≢ row_of tb L f) × (took e1 p ≡ false) × (took e2 p ≡ false))
-        settled atFor atFor k e = inl (drop_either (took e1 p) (took e2 p) (σ.tok p) (and_both (took e1 p || took e2 p) (not (took e3 p)) k).0)
-        settled atFor atEnd k e = let x = never_taken (took e1 p) (took e2 p) (took e3 p) k in inr (λ z. for_not_end tb g L (tb.last L) isfor (g.for_end L isfor) (sym z ∙ e), x.0, x.1)
-        settled atEnd atFor k e = let x = never_taken (took e1 p) (took e2 p) (took e3 p) k in inr (λ z. for_not_end tb g L (tb.last L) isfor (g.for_end L isfor) (sym e ∙ z), x.0, x.1)
-        settled atEnd atEnd k e =
+        settled at_a_for at_a_for k e = inl (drop_either (took e1 p) (took e2 p) (σ.tok p) (and_both (took e1 p || took e2 p) (not (took e3 p)) k).0)
+        settled at_a_for at_an_end k e = let x = never_taken (took e1 p) (took e2 p) (took e3 p) k in inr (λ z. for_not_end tb g L (tb.last L) isfor (g.for_end L isfor) (sym z ∙ e), x.0, x.1)
+        settled at_an_end at_a_for k e = let x = never_taken (took e1 p) (took e2 p) (took e3 p) k in inr (λ z. for_not_end tb g L (tb.last L) isfor (g.for_end L isfor) (sym e ∙ z), x.0, x.1)
+        settled at_an_end at_an_end k e =
             inl (drop_none (took e2 p) (unless_taken (took e1 p) (σ.tok p)) (ap (λ (z : Bool). unless_taken z (σ.tok p)) (and_three (took e1 p) (not (took e2 p)) (not (took e3 p)) k).0))
 
         stay : d ≢ row_of tb L from → took e1 p ≡ false → took e2 p ≡ false → Shows tb (T3.tok p) v B d pc' env'
@@ -428,10 +428,10 @@ module _ (tb : Table) (g : Good tb) (L s t b u c : ℕ) (q : tb.row L ≡ for s 
         ]
 
     word_at_lem : (f at : From) → Gamma tb (row_of tb L f) env σ → (p : Use) (v : ℕ) → slot tb p ≡ val v (body_of tb L at) (row_of tb L at) → σ.tok p ≡ word_at f at v
-    word_at_lem atFor atFor H p v r = token_at_lem tb g L env σ H p v (tb.reads L) r
-    word_at_lem atFor atEnd H p v r = (H.values p v L (tb.last L) r).off (λ l. not_yet L refl (l.0, l.1))
-    word_at_lem atEnd atFor H p v r = let ff = g.for_first L isfor in let fl = g.for_last L isfor in (H.values p v (tb.reads L) L r).off (λ l. let l3 = l.3 in omega arith)
-    word_at_lem atEnd atEnd H p v r = token_at_lem tb g (tb.last L) env σ H p v L r
+    word_at_lem at_a_for at_a_for H p v r = token_at_lem tb g L env σ H p v (tb.reads L) r
+    word_at_lem at_a_for at_an_end H p v r = (H.values p v L (tb.last L) r).off (λ l. not_yet L refl (l.0, l.1))
+    word_at_lem at_an_end at_a_for H p v r = let ff = g.for_first L isfor in let fl = g.for_last L isfor in (H.values p v (tb.reads L) L r).off (λ l. let l3 = l.3 in omega arith)
+    word_at_lem at_an_end at_an_end H p v r = token_at_lem tb g (tb.last L) env σ H p v L r
 
     seen1 : (n : Role) (k : Input) (x : Port) → PortIs tb g L s t b u c q n k x → σ.tok (into n k) ≡ look1 from to e1 e2 e3 x (σ.tok (into n k))
     seen1 n k (link m o) l = G.inners (into n k) (output m o) l.reads
@@ -551,5 +551,5 @@ module _ (tb : Table) (g : Good tb) (L s t b u c : ℕ) (q : tb.row L ≡ for s 
       let el = turn_idx tb g L isfor x h env in
       sym (ap (λ (z : Row). stream_held z L (turn_env tb L x h env)) q ∙ (λ i. holding (update u (el i) (et i)) (et i) (eb i)))
 
-  pub copy_turns : (x : ℕ) (h : Env) (v : ℕ) → tb.carried L v ≡ true → holding (env v) 0 0 ≡ held tb (copyInvariant L v) (turn_env tb L x h env)
+  pub copy_turns : (x : ℕ) (h : Env) (v : ℕ) → tb.carried L v ≡ true → holding (env v) 0 0 ≡ held tb (copy_invariant L v) (turn_env tb L x h env)
   copy_turns x h v m = ap (λ (z : ℕ). holding z 0 0) (sym (turn_low tb g L isfor v x h env (g.in_before L v m)))

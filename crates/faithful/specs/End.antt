@@ -13,14 +13,14 @@ use Rattle.std.proofs.Math.Option.{none, some}
 use Rattle.word.specs.Words.{condition, update}
 use Rattle.step.specs.Machines.{rest, in_phase, holding}
 use Rattle.table.specs.Bodies.{for}
-use Rattle.lowered.specs.Roles.{op_node, stream, gate, guard, copySplit, copyInvariant, carry, argSplit}
+use Rattle.lowered.specs.Roles.{op_node, stream, gate, guard, copy_split, copy_invariant, carry, arg_split}
 use Rattle.uses.specs.Machine.{State}
 use Rattle.faithful.specs.Table.{Table, named}
 use Rattle.faithful.specs.Good.{Good}
 use Rattle.faithful.specs.Gamma.{Env, Gamma}
 use Rattle.faithful.specs.Rows.{Path}
 use Rattle.faithful.specs.Stages.{Effects, say_if}
-use Rattle.faithful.specs.Turn.{eff, atEnd, turn, exit, nexts_to, turn_env}
+use Rattle.faithful.specs.Turn.{eff, at_an_end, turn, exit, nexts_to, turn_env}
 use Rattle.faithful.specs.Course.{Course, stream_turns, copy_turns, made}
 use Rattle.faithful.specs.For.{pair_yes, pair_no}
 
@@ -38,30 +38,30 @@ module _ (tb : Table) (g : Good tb) (L s t b u c : ℕ) (q : tb.row L ≡ for s 
   a1 (stream M) = eff false false false (some index) (some 1) (holding (update u index (env t)) (env t) (env b))
   a1 (gate M) = none
   a1 (guard M) = none
-  a1 (copySplit M v) = none
-  a1 (copyInvariant M v) = none
+  a1 (copy_split M v) = none
+  a1 (copy_invariant M v) = none
   a1 (carry a) = eff false false true (some (news a)) none (in_phase 1)
-  a1 (argSplit a) = none
+  a1 (arg_split a) = none
 
   abbrev a2 : Effects
   a2 (op_node r) = none
   a2 (stream M) = none
   a2 (gate M) = eff true true false (some index) (some 1) (in_phase 1)
   a2 (guard M) = none
-  a2 (copySplit M v) = none
-  a2 (copyInvariant M v) = none
+  a2 (copy_split M v) = none
+  a2 (copy_invariant M v) = none
   a2 (carry a) = eff true false false none none (in_phase 2)
-  a2 (argSplit a) = eff true true false (some (news a)) none rest
+  a2 (arg_split a) = eff true true false (some (news a)) none rest
 
   abbrev a3 : Effects
   a3 (op_node r) = none
   a3 (stream M) = none
   a3 (gate M) = none
   a3 (guard M) = none
-  a3 (copySplit M v) = none
-  a3 (copyInvariant M v) = eff true false false (some (env v)) none (holding (env v) 0 0)
+  a3 (copy_split M v) = none
+  a3 (copy_invariant M v) = eff true false false (some (env v)) none (holding (env v) 0 0)
   a3 (carry a) = none
-  a3 (argSplit a) = none
+  a3 (arg_split a) = none
 
   -- none
   abbrev l1 : Effects
@@ -69,30 +69,30 @@ module _ (tb : Table) (g : Good tb) (L s t b u c : ℕ) (q : tb.row L ≡ for s 
   l1 (stream M) = eff false false false (some index) (some 0) rest
   l1 (gate M) = none
   l1 (guard M) = none
-  l1 (copySplit M v) = none
-  l1 (copyInvariant M v) = none
+  l1 (copy_split M v) = none
+  l1 (copy_invariant M v) = none
   l1 (carry a) = eff false false true (some (news a)) none (in_phase 1)
-  l1 (argSplit a) = none
+  l1 (arg_split a) = none
 
   abbrev l2 : Effects
   l2 (op_node r) = none
   l2 (stream M) = none
   l2 (gate M) = eff true true false none (some 0) rest
   l2 (guard M) = none
-  l2 (copySplit M v) = none
-  l2 (copyInvariant M v) = none
+  l2 (copy_split M v) = none
+  l2 (copy_invariant M v) = none
   l2 (carry a) = eff true false false none none rest
-  l2 (argSplit a) = eff true true false none (some (news a)) rest
+  l2 (arg_split a) = eff true true false none (some (news a)) rest
 
   abbrev l3 : Effects
   l3 (op_node r) = none
   l3 (stream M) = none
   l3 (gate M) = none
   l3 (guard M) = none
-  l3 (copySplit M v) = none
-  l3 (copyInvariant M v) = eff true false false none none rest
+  l3 (copy_split M v) = none
+  l3 (copy_invariant M v) = eff true false false none none rest
   l3 (carry a) = none
-  l3 (argSplit a) = none
+  l3 (arg_split a) = none
 
   -- ---- another turn
   module _ (k : ℕ) (yes-turn : condition c index (env b) ≡ suc k) where
@@ -100,7 +100,7 @@ module _ (tb : Table) (g : Good tb) (L s t b u c : ℕ) (q : tb.row L ≡ for s 
     env1 = turn_env tb L index news env
 
     -- of each role: stages 1, 2 and 3, its inputs, its record
-    repeats : Course tb g L s t b u c q env atEnd (turn index news) a1 a2 a3
+    repeats : Course tb g L s t b u c q env at_an_end (turn index news) a1 a2 a3
     repeats =
         record {
           of_stream = (inr (λ _ _ _. rw q (pair_yes u c index (env t) (env b) k none none none (g.for_code L s t b u c q) yes-turn)), inl refl, inl refl, refl, stream_turns tb g L s t b u c q env index news);
@@ -118,7 +118,7 @@ module _ (tb : Table) (g : Good tb) (L s t b u c : ℕ) (q : tb.row L ≡ for s 
 
     -- THE STEP of an END, with another turn
     pub step_again : Path tb g env σ (tb.first L) env1 (λ M. say_if (eqb M L) (1 ∷ [])) (λ M. say_if (eqb M L) (1 ∷ []))
-    step_again = made tb g L s t b u c q env atEnd (turn index news) a1 a2 a3 repeats σ G (λ M. say_if (eqb M L) (1 ∷ [])) (λ M. say_if (eqb M L) (1 ∷ [])) (λ M. refl) (λ M. refl)
+    step_again = made tb g L s t b u c q env at_an_end (turn index news) a1 a2 a3 repeats σ G (λ M. say_if (eqb M L) (1 ∷ [])) (λ M. say_if (eqb M L) (1 ∷ [])) (λ M. refl) (λ M. refl)
 
   -- ---- the loop is left
   module _ (no-turn : condition c index (env b) ≡ 0) where
@@ -128,7 +128,7 @@ module _ (tb : Table) (g : Good tb) (L s t b u c : ℕ) (q : tb.row L ≡ for s 
     abbrev pub env0 : Env
     env0 = nexts_to tb L leaving env
 
-    leaves : Course tb g L s t b u c q env atEnd (exit leaving) l1 l2 l3
+    leaves : Course tb g L s t b u c q env at_an_end (exit leaving) l1 l2 l3
     leaves =
         record {
           of_stream = (inr (λ _ _ _. rw q (pair_no u c index (env t) (env b) none none none (g.for_code L s t b u c q) no-turn)), inl refl, inl refl, refl, refl);
@@ -146,4 +146,4 @@ module _ (tb : Table) (g : Good tb) (L s t b u c : ℕ) (q : tb.row L ≡ for s 
 
     -- THE STEP of an END, that leaves
     pub step_leave : Path tb g env σ (suc (tb.last L)) env0 (λ M. say_if (eqb M L) (0 ∷ [])) (λ M. say_if (eqb M L) (0 ∷ []))
-    step_leave = made tb g L s t b u c q env atEnd (exit leaving) l1 l2 l3 leaves σ G (λ M. say_if (eqb M L) (0 ∷ [])) (λ M. say_if (eqb M L) (0 ∷ [])) (λ M. refl) (λ M. refl)
+    step_leave = made tb g L s t b u c q env at_an_end (exit leaving) l1 l2 l3 leaves σ G (λ M. say_if (eqb M L) (0 ∷ [])) (λ M. say_if (eqb M L) (0 ∷ [])) (λ M. refl) (λ M. refl)

@@ -23,7 +23,7 @@ use Rattle.confluence.specs.Orders.{Rests}
 use Rattle.confluence.specs.Wired.{Wired}
 use Rattle.table.specs.Bodies.{Row, input, const, op, pick, for, arg, next, end, out, unknown}
 use Rattle.lowered.specs.Lists.{Among, Once}
-use Rattle.lowered.specs.Roles.{Role, op_node, stream, gate, guard, copySplit, copyInvariant, carry, argSplit, Wire, start, output, Use, into, result}
+use Rattle.lowered.specs.Roles.{Role, op_node, stream, gate, guard, copy_split, copy_invariant, carry, arg_split, Wire, start, output, Use, into, result}
 use Rattle.uses.specs.Machine.{State}
 use Rattle.uses.specs.Wires.{Tokens, in_tok, view2, Spread, drained, alone, forked, below, nodes, OneOf, uses_in}
 use Rattle.uses.specs.Layout.{Layout, Made, Tree, Shown, wire_if, use_in_tree, dec_use, use_found}
@@ -136,10 +136,10 @@ quiet_run tb n v r a b c = ap (λ (z : Record). perform (program_of tb n z) v) r
     go (stream L) = streams (tb.row L)
     go (gate L) = rw a
     go (guard L) = guards (tb.row L)
-    go (copySplit L x) = rw a
-    go (copyInvariant L x) = rw b
+    go (copy_split L x) = rw a
+    go (copy_invariant L x) = rw b
     go (carry x) = rw b
-    go (argSplit x) = rw a
+    go (arg_split x) = rw a
 
 -- forks and drains whose wires are empty are not ready
 fork_waits : (p : ℕ) (v : View) → v.word0 ≡ none → perform (Machines.fork p) v ≡ none

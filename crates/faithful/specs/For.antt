@@ -16,14 +16,14 @@ use Rattle.step.specs.Kinds.{STREAM, SPLIT, OP}
 use Rattle.step.specs.Firing.{perform}
 use Rattle.step.specs.Machines.{program, rest, in_phase, holding}
 use Rattle.table.specs.Bodies.{for}
-use Rattle.lowered.specs.Roles.{op_node, stream, gate, guard, copySplit, copyInvariant, carry, argSplit}
+use Rattle.lowered.specs.Roles.{op_node, stream, gate, guard, copy_split, copy_invariant, carry, arg_split}
 use Rattle.uses.specs.Machine.{State}
 use Rattle.faithful.specs.Table.{Table, named}
 use Rattle.faithful.specs.Good.{Good}
 use Rattle.faithful.specs.Gamma.{Env, Gamma}
 use Rattle.faithful.specs.Rows.{sight, Path, silent}
 use Rattle.faithful.specs.Stages.{Effects, say_if}
-use Rattle.faithful.specs.Turn.{eff, atFor, turn, exit, nexts_to, turn_env}
+use Rattle.faithful.specs.Turn.{eff, at_a_for, turn, exit, nexts_to, turn_env}
 use Rattle.faithful.specs.Course.{Course, stream_turns, copy_turns, made}
 
 say_nil : (b : Bool) → say_if b [] ≡ []
@@ -73,10 +73,10 @@ module _ (tb : Table) (g : Good tb) (L s t b u c : ℕ) (q : tb.row L ≡ for s 
   f1 (stream M) = eff true true true none none (holding (env s) (env t) (env b))
   f1 (gate M) = none
   f1 (guard M) = eff true true false (some (condition c (env s) (env b))) none rest
-  f1 (copySplit M v) = none
-  f1 (copyInvariant M v) = none
+  f1 (copy_split M v) = none
+  f1 (copy_invariant M v) = none
   f1 (carry a) = eff false true false (some (initials a)) none (in_phase 1)
-  f1 (argSplit a) = none
+  f1 (arg_split a) = none
 
   -- stages 2 and 3 where a turn starts
   abbrev o2 : Effects
@@ -84,20 +84,20 @@ module _ (tb : Table) (g : Good tb) (L s t b u c : ℕ) (q : tb.row L ≡ for s 
   o2 (stream M) = eff false false false (some (env s)) (some 1) (holding (update u (env s) (env t)) (env t) (env b))
   o2 (gate M) = none
   o2 (guard M) = none
-  o2 (copySplit M v) = eff true true false (some (env v)) none rest
-  o2 (copyInvariant M v) = none
+  o2 (copy_split M v) = eff true true false (some (env v)) none rest
+  o2 (copy_invariant M v) = none
   o2 (carry a) = none
-  o2 (argSplit a) = none
+  o2 (arg_split a) = none
 
   abbrev o3 : Effects
   o3 (op_node r) = none
   o3 (stream M) = none
   o3 (gate M) = eff true true false (some (env s)) none (in_phase 1)
   o3 (guard M) = none
-  o3 (copySplit M v) = none
-  o3 (copyInvariant M v) = eff false true false (some (env v)) none (holding (env v) 0 0)
+  o3 (copy_split M v) = none
+  o3 (copy_invariant M v) = eff false true false (some (env v)) none (holding (env v) 0 0)
   o3 (carry a) = eff true false false none none (in_phase 2)
-  o3 (argSplit a) = eff true true false (some (initials a)) none rest
+  o3 (arg_split a) = eff true true false (some (initials a)) none rest
 
   -- and where none does
   abbrev n2 : Effects
@@ -105,20 +105,20 @@ module _ (tb : Table) (g : Good tb) (L s t b u c : ℕ) (q : tb.row L ≡ for s 
   n2 (stream M) = eff false false false (some (env s)) (some 0) rest
   n2 (gate M) = none
   n2 (guard M) = none
-  n2 (copySplit M v) = eff true true false none (some (env v)) rest
-  n2 (copyInvariant M v) = none
+  n2 (copy_split M v) = eff true true false none (some (env v)) rest
+  n2 (copy_invariant M v) = none
   n2 (carry a) = none
-  n2 (argSplit a) = none
+  n2 (arg_split a) = none
 
   abbrev n3 : Effects
   n3 (op_node r) = none
   n3 (stream M) = none
   n3 (gate M) = eff true true false none none rest
   n3 (guard M) = none
-  n3 (copySplit M v) = none
-  n3 (copyInvariant M v) = none
+  n3 (copy_split M v) = none
+  n3 (copy_invariant M v) = none
   n3 (carry a) = eff true false false none none rest
-  n3 (argSplit a) = eff true true false none (some (initials a)) rest
+  n3 (arg_split a) = eff true true false none (some (initials a)) rest
 
   -- ---- a turn starts
   module _ (k : ℕ) (yes-turn : condition c (env s) (env b) ≡ suc k) where
@@ -126,7 +126,7 @@ module _ (tb : Table) (g : Good tb) (L s t b u c : ℕ) (q : tb.row L ≡ for s 
     env1 = turn_env tb L (env s) initials env
 
     -- of each role: stages 1, 2 and 3, its inputs, its record
-    opens : Course tb g L s t b u c q env atFor (turn (env s) initials) f1 o2 o3
+    opens : Course tb g L s t b u c q env at_a_for (turn (env s) initials) f1 o2 o3
     opens =
         record {
           of_stream = (
@@ -150,7 +150,7 @@ module _ (tb : Table) (g : Good tb) (L s t b u c : ℕ) (q : tb.row L ≡ for s 
 
     -- THE STEP of a FOR that opens
     pub step_open : Path tb g env σ (tb.first L) env1 (λ M. say_if (eqb M L) (1 ∷ [])) (silent tb g)
-    step_open = made tb g L s t b u c q env atFor (turn (env s) initials) f1 o2 o3 opens σ G (λ M. say_if (eqb M L) (1 ∷ [])) (silent tb g) (λ M. refl) (λ M. say_nil (eqb M L))
+    step_open = made tb g L s t b u c q env at_a_for (turn (env s) initials) f1 o2 o3 opens σ G (λ M. say_if (eqb M L) (1 ∷ [])) (silent tb g) (λ M. refl) (λ M. say_nil (eqb M L))
 
   -- ---- no turn
   module _ (no-turn : condition c (env s) (env b) ≡ 0) where
@@ -160,7 +160,7 @@ module _ (tb : Table) (g : Good tb) (L s t b u c : ℕ) (q : tb.row L ≡ for s 
     abbrev pub env0 : Env
     env0 = nexts_to tb L exits env
 
-    passes : Course tb g L s t b u c q env atFor (exit exits) f1 n2 n3
+    passes : Course tb g L s t b u c q env at_a_for (exit exits) f1 n2 n3
     passes =
         record {
           of_stream = (inr (λ _ _ _. rw q (latch_run (5 * u + c) (env s) (env t) (env b) nz)), inr (λ _ _ _. rw q (pair_no u c (env s) (env t) (env b) none none none (g.for_code L s t b u c q) no-turn)), inl refl, refl, refl);
@@ -178,4 +178,4 @@ module _ (tb : Table) (g : Good tb) (L s t b u c : ℕ) (q : tb.row L ≡ for s 
 
     -- THE STEP of a FOR of no turn
     pub step_none : Path tb g env σ (suc (tb.last L)) env0 (λ M. say_if (eqb M L) (0 ∷ [])) (silent tb g)
-    step_none = made tb g L s t b u c q env atFor (exit exits) f1 n2 n3 passes σ G (λ M. say_if (eqb M L) (0 ∷ [])) (silent tb g) (λ M. refl) (λ M. say_nil (eqb M L))
+    step_none = made tb g L s t b u c q env at_a_for (exit exits) f1 n2 n3 passes σ G (λ M. say_if (eqb M L) (0 ∷ [])) (silent tb g) (λ M. refl) (λ M. say_nil (eqb M L))

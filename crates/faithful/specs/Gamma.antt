@@ -17,7 +17,7 @@ use Rattle.step.specs.Kinds.{in1, in2}
 use Rattle.step.specs.Machines.{rest, in_phase, holding}
 use Rattle.step.specs.declared.Record.{Record}
 use Rattle.table.specs.Bodies.{Row, input, const, op, pick, for, arg, next, end, out, unknown}
-use Rattle.lowered.specs.Roles.{Role, op_node, stream, gate, guard, copySplit, copyInvariant, carry, argSplit, Wire, Use, into}
+use Rattle.lowered.specs.Roles.{Role, op_node, stream, gate, guard, copy_split, copy_invariant, carry, arg_split, Wire, Use, into}
 use Rattle.uses.specs.Machine.{State}
 use Rattle.faithful.specs.Table.{Table, val, inner, IsFor, since, slot, is_op, Real}
 use Rattle.faithful.specs.Good.{Inner, Good, from_start, from_op, from_for, from_arg, from_next, from_copy, source}
@@ -55,20 +55,20 @@ module _ (tb : Table) where
   scope (stream L) = L
   scope (gate L) = L
   scope (guard L) = tb.size
-  scope (copySplit L v) = tb.size
-  scope (copyInvariant L v) = L
+  scope (copy_split L v) = tb.size
+  scope (copy_invariant L v) = L
   scope (carry a) = tb.loop a
-  scope (argSplit a) = tb.size
+  scope (arg_split a) = tb.size
 
   abbrev pub held : Role → Env → Record
   held (op_node r) env = rest
   held (stream L) env = stream_held (tb.row L) L env
   held (gate L) env = in_phase 1
   held (guard L) env = rest
-  held (copySplit L v) env = rest
-  held (copyInvariant L v) env = holding (env v) 0 0
+  held (copy_split L v) env = rest
+  held (copy_invariant L v) env = holding (env v) 0 0
   held (carry a) env = in_phase 2
-  held (argSplit a) env = rest
+  held (arg_split a) env = rest
 
   -- THE CONFIGURATION
   pub record Gamma (pc : ℕ) (env : Env) (s : State) : Type 0 where
@@ -219,7 +219,7 @@ module _ (tb : Table) where
         rw q (λ i. holding (update u (el i) (et i)) (et i) (eb i))
     held_same (gate L) rl env env' h = refl
     held_same (guard L) rl env env' h = refl
-    held_same (copySplit L v) rl env env' h = refl
-    held_same (copyInvariant L v) rl env env' h = ap (λ (z : ℕ). holding z 0 0) (h v rl.0 (let k = g.in_before L v rl.1 in omega arith))
+    held_same (copy_split L v) rl env env' h = refl
+    held_same (copy_invariant L v) rl env env' h = ap (λ (z : ℕ). holding z 0 0) (h v rl.0 (let k = g.in_before L v rl.1 in omega arith))
     held_same (carry a) rl env env' h = refl
-    held_same (argSplit a) rl env env' h = refl
+    held_same (arg_split a) rl env env' h = refl

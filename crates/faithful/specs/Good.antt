@@ -16,7 +16,7 @@ use Rattle.std.proofs.Math.Facts.{yes_eqb}
 use Rattle.std.proofs.Math.Dec.{T, eqb}
 use Rattle.step.specs.Kinds.{Input, in0, in1, in2, Output, out0, out1}
 use Rattle.table.specs.Bodies.{Row, input, const, op, pick, for, arg, next, end, out, unknown}
-use Rattle.lowered.specs.Roles.{Role, op_node, stream, gate, guard, copySplit, copyInvariant, carry, argSplit, Wire, start, output, Use, into, result}
+use Rattle.lowered.specs.Roles.{Role, op_node, stream, gate, guard, copy_split, copy_invariant, carry, arg_split, Wire, start, output, Use, into, result}
 use Rattle.faithful.specs.Table.{Table, val, inner, named, op_slot, stream_slot, guard_slot, gate_slot, copy_split_slot, copy_invariant_slot, carry_slot, arg_split_slot, result_slot, IsFor, wire_of, born, since, slot, is_op, is_start, is_arg, is_for_row, is_in}
 use Rattle.faithful.specs.Members.{eqb_yes, in_loop, two_in, arg_in}
 
@@ -92,9 +92,9 @@ module _ (tb : Table) where
     from_start : wire_of tb v B ≡ start v → tb.home v ≡ B → is_start tb (tb.row v) ≡ true → since tb v B ≡ 0 → Source v B
     from_op : wire_of tb v B ≡ output (op_node v) out0 → tb.home v ≡ B → is_op tb (tb.row v) ≡ true → since tb v B ≡ suc v → Source v B
     from_for : wire_of tb v B ≡ output (gate v) out0 → tb.home v ≡ B → IsFor tb v → since tb v B ≡ 0 → Source v B
-    from_arg : (i : ℕ) → wire_of tb v B ≡ output (argSplit v) out0 → tb.home v ≡ B → tb.row v ≡ arg i → since tb v B ≡ 0 → Source v B
-    from_next : (x : ℕ) → wire_of tb v B ≡ output (argSplit (tb.arg_of v)) out1 → tb.home v ≡ B → tb.row v ≡ next x → since tb v B ≡ suc (tb.last (tb.loop v)) → Source v B
-    from_copy : wire_of tb v B ≡ output (copyInvariant B v) out0 → tb.home v ≢ B → since tb v B ≡ 0 → Source v B
+    from_arg : (i : ℕ) → wire_of tb v B ≡ output (arg_split v) out0 → tb.home v ≡ B → tb.row v ≡ arg i → since tb v B ≡ 0 → Source v B
+    from_next : (x : ℕ) → wire_of tb v B ≡ output (arg_split (tb.arg_of v)) out1 → tb.home v ≡ B → tb.row v ≡ next x → since tb v B ≡ suc (tb.last (tb.loop v)) → Source v B
+    from_copy : wire_of tb v B ≡ output (copy_invariant B v) out0 → tb.home v ≢ B → since tb v B ≡ 0 → Source v B
 
   pub source : (v B : ℕ) → Source v B
   unfolding wire_of since
@@ -186,10 +186,10 @@ module _ (tb : Table) where
   when_carry g a unknown k v B c q h = let z : ◌≡◌ {A = ℕ} 0 1 = cc in absurd (omega arith)
   when_carry g a (out x) k v B c q h = let z : ◌≡◌ {A = ℕ} 0 1 = cc in absurd (omega arith)
 
-  when_split : Good → (L u : ℕ) (b : Bool) (k : Input) (v B c : ℕ) → tb.carried L u ≡ b → copy_split_slot b (tb.reads L) L u k ≡ val v B c → When (into (copySplit L u) k) v B c
+  when_split : Good → (L u : ℕ) (b : Bool) (k : Input) (v B c : ℕ) → tb.carried L u ≡ b → copy_split_slot b (tb.reads L) L u k ≡ val v B c → When (into (copy_split L u) k) v B c
   when_split g L u false k v B c q h = let z : ◌≡◌ {A = ℕ} 0 1 = cc in absurd (omega arith)
   when_split g L u true in0 v B c q h = let z : ◌≡◌ {A = ℕ} 0 1 = cc in absurd (omega arith)
-  when_split g L u true in1 v B c q h = at_for (copySplit L u) in1 L v B c (cc) (cc) (g.in_for L u q) (two_in tb L u q)
+  when_split g L u true in1 v B c q h = at_for (copy_split L u) in1 L v B c (cc) (cc) (g.in_for L u q) (two_in tb L u q)
   when_split g L u true in2 v B c q h = let z : ◌≡◌ {A = ℕ} 0 1 = cc in absurd (omega arith)
 
   when_out : (q : ℕ) (r : Row) (v B c : ℕ) → tb.row q ≡ r → result_slot r tb.size (suc tb.size) ≡ val v B c → When (result q) v B c
@@ -210,7 +210,7 @@ module _ (tb : Table) where
   not_gate true L in1 v B c h = let z : ◌≡◌ {A = ℕ} 0 1 = cc in omega arith
   not_gate true L in2 v B c h = let z : ◌≡◌ {A = ℕ} 0 1 = cc in omega arith
 
-  when_inv : Good → (L u : ℕ) (b : Bool) (k : Input) (v B c : ℕ) → tb.carried L u ≡ b → copy_invariant_slot b (tb.reads L) L u k ≡ val v B c → When (into (copyInvariant L u) k) v B c
+  when_inv : Good → (L u : ℕ) (b : Bool) (k : Input) (v B c : ℕ) → tb.carried L u ≡ b → copy_invariant_slot b (tb.reads L) L u k ≡ val v B c → When (into (copy_invariant L u) k) v B c
   when_inv g L u false k v B c q h = let z : ◌≡◌ {A = ℕ} 0 1 = cc in absurd (omega arith)
   when_inv g L u true in0 v B c q h = let z : ◌≡◌ {A = ℕ} 0 1 = cc in absurd (omega arith)
   when_inv g L u true in1 v B c q h = let z : ◌≡◌ {A = ℕ} 0 1 = cc in absurd (omega arith)
@@ -227,10 +227,10 @@ module _ (tb : Table) where
   when g (into (stream L) k) v B c h = when_stream L (tb.row L) k v B c refl h
   when g (into (gate L) k) v B c h = absurd (not_gate (is_for_row (tb.row L)) L k v B c h)
   when g (into (guard L) k) v B c h = when_guard L (tb.row L) k v B c refl h
-  when g (into (copySplit L u) k) v B c h = when_split g L u (tb.carried L u) k v B c refl h
-  when g (into (copyInvariant L u) k) v B c h = when_inv g L u (tb.carried L u) k v B c refl h
+  when g (into (copy_split L u) k) v B c h = when_split g L u (tb.carried L u) k v B c refl h
+  when g (into (copy_invariant L u) k) v B c h = when_inv g L u (tb.carried L u) k v B c refl h
   when g (into (carry a) k) v B c h = when_carry g a (tb.row a) k v B c refl h
-  when g (into (argSplit a) k) v B c h = absurd (not_asplit (is_arg (tb.row a)) (tb.loop a) a k v B c h)
+  when g (into (arg_split a) k) v B c h = absurd (not_asplit (is_arg (tb.row a)) (tb.loop a) a k v B c h)
   when g (result q) v B c h = when_out q (tb.row q) v B c refl h
 
   -- ---- inner uses: an input of a node of a loop reads an output of a node of the same loop
@@ -318,9 +318,9 @@ module _ (tb : Table) where
   in_carry a unknown B L x e k w q l h = let z : ◌≡◌ {A = ℕ} 0 1 = cc in absurd (omega arith)
   in_carry a (out y) B L x e k w q l h = let z : ◌≡◌ {A = ℕ} 0 1 = cc in absurd (omega arith)
 
-  in_split : (L u : ℕ) (b : Bool) (k : Input) (w : Wire) → tb.carried L u ≡ b → copy_split_slot b (tb.reads L) L u k ≡ inner w → Inward (into (copySplit L u) k) w
+  in_split : (L u : ℕ) (b : Bool) (k : Input) (w : Wire) → tb.carried L u ≡ b → copy_split_slot b (tb.reads L) L u k ≡ inner w → Inward (into (copy_split L u) k) w
   in_split L u false k w q h = let z : ◌≡◌ {A = ℕ} 0 1 = cc in absurd (omega arith)
-  in_split L u true in0 w q h = within L (copySplit L u) in0 (guard L) out0 w (cc) (two_in tb L u q) (eqb_yes L)
+  in_split L u true in0 w q h = within L (copy_split L u) in0 (guard L) out0 w (cc) (two_in tb L u q) (eqb_yes L)
   in_split L u true in1 w q h = let z : ◌≡◌ {A = ℕ} 0 1 = cc in absurd (omega arith)
   in_split L u true in2 w q h = let z : ◌≡◌ {A = ℕ} 0 1 = cc in absurd (omega arith)
 
@@ -330,16 +330,16 @@ module _ (tb : Table) where
   in_gate L true in1 w q h = within L (gate L) in1 (stream L) out1 w (cc) (eqb_yes L) (eqb_yes L)
   in_gate L true in2 w q h = let z : ◌≡◌ {A = ℕ} 0 1 = cc in absurd (omega arith)
 
-  in_inv : (L u : ℕ) (b : Bool) (k : Input) (w : Wire) → tb.carried L u ≡ b → copy_invariant_slot b (tb.reads L) L u k ≡ inner w → Inward (into (copyInvariant L u) k) w
+  in_inv : (L u : ℕ) (b : Bool) (k : Input) (w : Wire) → tb.carried L u ≡ b → copy_invariant_slot b (tb.reads L) L u k ≡ inner w → Inward (into (copy_invariant L u) k) w
   in_inv L u false k w q h = let z : ◌≡◌ {A = ℕ} 0 1 = cc in absurd (omega arith)
-  in_inv L u true in0 w q h = within L (copyInvariant L u) in0 (gate L) out1 w (cc) (two_in tb L u q) (eqb_yes L)
-  in_inv L u true in1 w q h = within L (copyInvariant L u) in1 (copySplit L u) out0 w (cc) (two_in tb L u q) (two_in tb L u q)
+  in_inv L u true in0 w q h = within L (copy_invariant L u) in0 (gate L) out1 w (cc) (two_in tb L u q) (eqb_yes L)
+  in_inv L u true in1 w q h = within L (copy_invariant L u) in1 (copy_split L u) out0 w (cc) (two_in tb L u q) (two_in tb L u q)
   in_inv L u true in2 w q h = let z : ◌≡◌ {A = ℕ} 0 1 = cc in absurd (omega arith)
 
-  in_asplit : (a : ℕ) (b : Bool) (k : Input) (w : Wire) → is_arg (tb.row a) ≡ b → arg_split_slot b (tb.loop a) a k ≡ inner w → Inward (into (argSplit a) k) w
+  in_asplit : (a : ℕ) (b : Bool) (k : Input) (w : Wire) → is_arg (tb.row a) ≡ b → arg_split_slot b (tb.loop a) a k ≡ inner w → Inward (into (arg_split a) k) w
   in_asplit a false k w q h = let z : ◌≡◌ {A = ℕ} 0 1 = cc in absurd (omega arith)
-  in_asplit a true in0 w q h = within (tb.loop a) (argSplit a) in0 (stream (tb.loop a)) out1 w (cc) (arg_in tb (tb.loop a) a refl q) (eqb_yes (tb.loop a))
-  in_asplit a true in1 w q h = within (tb.loop a) (argSplit a) in1 (carry a) out0 w (cc) (arg_in tb (tb.loop a) a refl q) (arg_in tb (tb.loop a) a refl q)
+  in_asplit a true in0 w q h = within (tb.loop a) (arg_split a) in0 (stream (tb.loop a)) out1 w (cc) (arg_in tb (tb.loop a) a refl q) (eqb_yes (tb.loop a))
+  in_asplit a true in1 w q h = within (tb.loop a) (arg_split a) in1 (carry a) out0 w (cc) (arg_in tb (tb.loop a) a refl q) (arg_in tb (tb.loop a) a refl q)
   in_asplit a true in2 w q h = let z : ◌≡◌ {A = ℕ} 0 1 = cc in absurd (omega arith)
 
   pub inward : (p : Use) (w : Wire) → slot tb p ≡ inner w → Inward p w
@@ -347,8 +347,8 @@ module _ (tb : Table) where
   inward (into (stream L) k) w h = absurd (in_stream L (tb.row L) k w h)
   inward (into (gate L) k) w h = in_gate L (is_for_row (tb.row L)) k w refl h
   inward (into (guard L) k) w h = absurd (in_guard L (tb.row L) k w h)
-  inward (into (copySplit L u) k) w h = in_split L u (tb.carried L u) k w refl h
-  inward (into (copyInvariant L u) k) w h = in_inv L u (tb.carried L u) k w refl h
+  inward (into (copy_split L u) k) w h = in_split L u (tb.carried L u) k w refl h
+  inward (into (copy_invariant L u) k) w h = in_inv L u (tb.carried L u) k w refl h
   inward (into (carry a) k) w h = in_carry a (tb.row a) (tb.reads (tb.loop a)) (tb.loop a) (named (tb.row (tb.next_of a))) (tb.last (tb.loop a)) k w refl refl h
-  inward (into (argSplit a) k) w h = in_asplit a (is_arg (tb.row a)) k w refl h
+  inward (into (arg_split a) k) w h = in_asplit a (is_arg (tb.row a)) k w refl h
   inward (result q) w h = absurd (in_out q (tb.row q) w h)

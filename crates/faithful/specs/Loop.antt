@@ -17,7 +17,7 @@ use Rattle.step.specs.Kinds.{Input, Output, out0, out1}
 use Rattle.step.specs.Firing.{Effect}
 use Rattle.table.specs.Bodies.{Row, input, const, op, pick, for, arg, next, end, out, unknown}
 use Rattle.lowered.specs.Lists.{Among, among_left, among_right}
-use Rattle.lowered.specs.Roles.{Role, op_node, stream, gate, guard, copySplit, copyInvariant, carry, argSplit, Wire, output, Use, into}
+use Rattle.lowered.specs.Roles.{Role, op_node, stream, gate, guard, copy_split, copy_invariant, carry, arg_split, Wire, output, Use, into}
 use Rattle.uses.specs.Machine.{State, give_by, take_by, given, taken, after, Ready, Steps, stage_cover, those}
 use Rattle.faithful.specs.Table.{Table, val, IsFor, wire_of, since, slot, is_op, is_arg, plan}
 use Rattle.faithful.specs.Good.{Inner, Good, Source, from_start, from_op, from_for, from_arg, from_next, from_copy, source, When, by_op, by_for, by_end, by_out, when}
@@ -51,11 +51,11 @@ module _ (tb : Table) where
   -- a list of them
   abbrev pub arg_roles : ℕ → ℕ → List Role
   arg_roles a zero = []
-  arg_roles a (suc k) = carry a ∷ argSplit a ∷ arg_roles (suc a) k
+  arg_roles a (suc k) = carry a ∷ arg_split a ∷ arg_roles (suc a) k
 
   abbrev pub in_roles : ℕ → ℕ → ℕ → List Role
   in_roles L v zero = []
-  in_roles L v (suc k) = copySplit L v ∷ copyInvariant L v ∷ in_roles L (suc v) k
+  in_roles L v (suc k) = copy_split L v ∷ copy_invariant L v ∷ in_roles L (suc v) k
 
   unfoldable pub roles : ℕ → List Role
   roles L = stream L ∷ gate L ∷ guard L ∷ (arg_roles 0 (tb.first L) ++ in_roles L 0 L)
@@ -64,17 +64,17 @@ module _ (tb : Table) where
   carry_there zero a x p q = absurd (omega arith)
   carry_there (suc k) a x p q = elim (ℕ_discrete x a) [ yes e ↦ inl (ap carry e) | no e ↦ inr (inr (carry_there k (suc a) x (omega arith) (omega arith))) ]
 
-  asplit_there : (k a x : ℕ) → a ≤ x → x < a + k → Among (argSplit x) (arg_roles a k)
+  asplit_there : (k a x : ℕ) → a ≤ x → x < a + k → Among (arg_split x) (arg_roles a k)
   asplit_there zero a x p q = absurd (omega arith)
-  asplit_there (suc k) a x p q = elim (ℕ_discrete x a) [ yes e ↦ inr (inl (ap argSplit e)) | no e ↦ inr (inr (asplit_there k (suc a) x (omega arith) (omega arith))) ]
+  asplit_there (suc k) a x p q = elim (ℕ_discrete x a) [ yes e ↦ inr (inl (ap arg_split e)) | no e ↦ inr (inr (asplit_there k (suc a) x (omega arith) (omega arith))) ]
 
-  csplit_there : (L k v x : ℕ) → v ≤ x → x < v + k → Among (copySplit L x) (in_roles L v k)
+  csplit_there : (L k v x : ℕ) → v ≤ x → x < v + k → Among (copy_split L x) (in_roles L v k)
   csplit_there L zero v x p q = absurd (omega arith)
-  csplit_there L (suc k) v x p q = elim (ℕ_discrete x v) [ yes e ↦ inl (ap (copySplit L) e) | no e ↦ inr (inr (csplit_there L k (suc v) x (omega arith) (omega arith))) ]
+  csplit_there L (suc k) v x p q = elim (ℕ_discrete x v) [ yes e ↦ inl (ap (copy_split L) e) | no e ↦ inr (inr (csplit_there L k (suc v) x (omega arith) (omega arith))) ]
 
-  inv_there : (L k v x : ℕ) → v ≤ x → x < v + k → Among (copyInvariant L x) (in_roles L v k)
+  inv_there : (L k v x : ℕ) → v ≤ x → x < v + k → Among (copy_invariant L x) (in_roles L v k)
   inv_there L zero v x p q = absurd (omega arith)
-  inv_there L (suc k) v x p q = elim (ℕ_discrete x v) [ yes e ↦ inr (inl (ap (copyInvariant L) e)) | no e ↦ inr (inr (inv_there L k (suc v) x (omega arith) (omega arith))) ]
+  inv_there L (suc k) v x p q = elim (ℕ_discrete x v) [ yes e ↦ inr (inl (ap (copy_invariant L) e)) | no e ↦ inr (inr (inv_there L k (suc v) x (omega arith) (omega arith))) ]
 
 module _ (tb : Table) (g : Good tb) (L : ℕ) (f : IsFor tb L) where
   roles_all : (n : Role) → in_loop tb L n ≡ true → Among n (roles tb L)
@@ -83,28 +83,28 @@ module _ (tb : Table) (g : Good tb) (L : ℕ) (f : IsFor tb L) where
   roles_all (stream M) h = inl (ap stream (is_eqb M L h))
   roles_all (gate M) h = inr (inl (ap gate (is_eqb M L h)))
   roles_all (guard M) h = inr (inr (inl (ap guard (is_eqb M L h))))
-  roles_all (copySplit M v) h =
+  roles_all (copy_split M v) h =
       let q = in_two tb L M v h in
       let b : v < M = g.in_before M v q.1 in
       let e : M ≡ L = q.0 in
-      inr (inr (inr (among_right (copySplit M v) (arg_roles tb 0 (tb.first L)) (in_roles tb L 0 L)
-      (subst (λ (z : ℕ). Among (copySplit z v) (in_roles tb L 0 L)) (sym e) (csplit_there tb L L 0 v (omega arith) (omega arith))))))
-  roles_all (copyInvariant M v) h =
+      inr (inr (inr (among_right (copy_split M v) (arg_roles tb 0 (tb.first L)) (in_roles tb L 0 L)
+      (subst (λ (z : ℕ). Among (copy_split z v) (in_roles tb L 0 L)) (sym e) (csplit_there tb L L 0 v (omega arith) (omega arith))))))
+  roles_all (copy_invariant M v) h =
       let q = in_two tb L M v h in
       let b : v < M = g.in_before M v q.1 in
       let e : M ≡ L = q.0 in
-      inr (inr (inr (among_right (copyInvariant M v) (arg_roles tb 0 (tb.first L)) (in_roles tb L 0 L)
-      (subst (λ (z : ℕ). Among (copyInvariant z v) (in_roles tb L 0 L)) (sym e) (inv_there tb L L 0 v (omega arith) (omega arith))))))
+      inr (inr (inr (among_right (copy_invariant M v) (arg_roles tb 0 (tb.first L)) (in_roles tb L 0 L)
+      (subst (λ (z : ℕ). Among (copy_invariant z v) (in_roles tb L 0 L)) (sym e) (inv_there tb L L 0 v (omega arith) (omega arith))))))
   roles_all (carry a) h =
       let q = in_arg tb L a h in
       let r = arg_row tb a q.1 in
       let b : a < tb.first L = subst (λ (z : ℕ). a < tb.first z) q.0 (g.arg_high a r.0 r.1) in
       inr (inr (inr (among_left (carry a) (arg_roles tb 0 (tb.first L)) (in_roles tb L 0 L) (carry_there tb (tb.first L) 0 a (omega arith) (omega arith)))))
-  roles_all (argSplit a) h =
+  roles_all (arg_split a) h =
       let q = in_arg tb L a h in
       let r = arg_row tb a q.1 in
       let b : a < tb.first L = subst (λ (z : ℕ). a < tb.first z) q.0 (g.arg_high a r.0 r.1) in
-      inr (inr (inr (among_left (argSplit a) (arg_roles tb 0 (tb.first L)) (in_roles tb L 0 L) (asplit_there tb (tb.first L) 0 a (omega arith) (omega arith)))))
+      inr (inr (inr (among_left (arg_split a) (arg_roles tb 0 (tb.first L)) (in_roles tb L 0 L) (asplit_there tb (tb.first L) 0 a (omega arith) (omega arith)))))
 
   -- A STAGE of the loop's nodes
   pub loop_stage : (eff : Role → Option Effect) (s : State)
@@ -129,10 +129,10 @@ module _ (tb : Table) (g : Good tb) (L : ℕ) (f : IsFor tb L) where
   pub data Fill (v B : ℕ) : Type 0 where
     fills_index : v ≡ L → B ≡ L → since tb v B ≡ 0 → ((eff : Role → Option Effect) → given (only tb L eff) (some (wire_of tb v B)) ≡ give_by (eff (gate L)) out0) → Fill v B
     fills_arg : (i : ℕ) → tb.row v ≡ arg i → tb.loop v ≡ L → B ≡ L → since tb v B ≡ 0
-        → ((eff : Role → Option Effect) → given (only tb L eff) (some (wire_of tb v B)) ≡ give_by (eff (argSplit v)) out0) → Fill v B
-    fills_copy : tb.carried L v ≡ true → B ≡ L → since tb v B ≡ 0 → ((eff : Role → Option Effect) → given (only tb L eff) (some (wire_of tb v B)) ≡ give_by (eff (copyInvariant L v)) out0) → Fill v B
+        → ((eff : Role → Option Effect) → given (only tb L eff) (some (wire_of tb v B)) ≡ give_by (eff (arg_split v)) out0) → Fill v B
+    fills_copy : tb.carried L v ≡ true → B ≡ L → since tb v B ≡ 0 → ((eff : Role → Option Effect) → given (only tb L eff) (some (wire_of tb v B)) ≡ give_by (eff (copy_invariant L v)) out0) → Fill v B
     fills_exit : (x : ℕ) → tb.row v ≡ next x → tb.loop v ≡ L → B ≡ tb.reads L → tb.home v ≡ B → since tb v B ≡ suc (tb.last L)
-        → ((eff : Role → Option Effect) → given (only tb L eff) (some (wire_of tb v B)) ≡ give_by (eff (argSplit (tb.arg_of v))) out1) → Fill v B
+        → ((eff : Role → Option Effect) → given (only tb L eff) (some (wire_of tb v B)) ≡ give_by (eff (arg_split (tb.arg_of v))) out1) → Fill v B
     fills_none : (B ≡ L → since tb v B ≢ 0) → ((x : ℕ) → tb.row v ≡ next x → tb.loop v ≡ L → tb.home v ≡ B → ⊥)
         → ((eff : Role → Option Effect) → given (only tb L eff) (some (wire_of tb v B)) ≡ none) → Fill v B
 
@@ -157,22 +157,22 @@ module _ (tb : Table) (g : Good tb) (L : ℕ) (f : IsFor tb L) where
           ]
       go (from_arg i w h q z) =
           elim (ℕ_discrete (tb.loop v) L) [
-            | yes e ↦ fills_arg i q e (sym h ∙ g.arg_home v i q ∙ e) z (gives_yes v B (argSplit v) out0 w (arg_in tb L v e (ap is_arg q)))
-            | no e ↦ fills_none (λ d _. e (sym (g.arg_home v i q) ∙ h ∙ d)) (λ x k _ _. let z : ◌≡◌ {A = ℕ} 0 1 = cc in omega arith) (gives_no v B (argSplit v) out0 w (two_out tb L (tb.loop v) (is_arg (tb.row v)) e))
+            | yes e ↦ fills_arg i q e (sym h ∙ g.arg_home v i q ∙ e) z (gives_yes v B (arg_split v) out0 w (arg_in tb L v e (ap is_arg q)))
+            | no e ↦ fills_none (λ d _. e (sym (g.arg_home v i q) ∙ h ∙ d)) (λ x k _ _. let z : ◌≡◌ {A = ℕ} 0 1 = cc in omega arith) (gives_no v B (arg_split v) out0 w (two_out tb L (tb.loop v) (is_arg (tb.row v)) e))
           ]
       go (from_next x w h q z) =
           elim (ℕ_discrete (tb.loop v) L) [
             | yes e ↦ fills_exit x q e (sym h ∙ g.next_home v x q ∙ ap tb.reads e) h (z ∙ ap (λ (y : ℕ). suc (tb.last y)) e)
-                (gives_yes v B (argSplit (tb.arg_of v)) out1 w (arg_in tb L (tb.arg_of v) (g.next_arg_loop v x q ∙ e) (ap is_arg (g.next_arg v x q).1)))
+                (gives_yes v B (arg_split (tb.arg_of v)) out1 w (arg_in tb L (tb.arg_of v) (g.next_arg_loop v x q ∙ e) (ap is_arg (g.next_arg v x q).1)))
             | no e ↦ fills_none (λ d. omega arith) (λ y k l _. e l)
-                (gives_no v B (argSplit (tb.arg_of v)) out1 w (two_out tb L (tb.loop (tb.arg_of v)) (is_arg (tb.row (tb.arg_of v))) (λ l. e (sym (g.next_arg_loop v x q) ∙ l))))
+                (gives_no v B (arg_split (tb.arg_of v)) out1 w (two_out tb L (tb.loop (tb.arg_of v)) (is_arg (tb.row (tb.arg_of v))) (λ l. e (sym (g.next_arg_loop v x q) ∙ l))))
           ]
       go (from_copy w h z) =
           elim (ℕ_discrete B L) [
             | yes e ↦
                 let c : tb.carried L v ≡ true = subst (λ (y : ℕ). tb.carried y v ≡ true) e (away h) in
-                fills_copy c e z (λ eff. gives_yes v B (copyInvariant B v) out0 w (ap₂ (λ (a b : ℕ). eqb a L && tb.carried b v) e e ∙ two_in tb L v c) eff ∙ ap (λ (y : ℕ). give_by (eff (copyInvariant y v)) out0) e)
-            | no e ↦ fills_none (λ d _. e d) (λ x q l d. h d) (gives_no v B (copyInvariant B v) out0 w (two_out tb L B (tb.carried B v) e))
+                fills_copy c e z (λ eff. gives_yes v B (copy_invariant B v) out0 w (ap₂ (λ (a b : ℕ). eqb a L && tb.carried b v) e e ∙ two_in tb L v c) eff ∙ ap (λ (y : ℕ). give_by (eff (copy_invariant y v)) out0) e)
+            | no e ↦ fills_none (λ d _. e d) (λ x q l d. h d) (gives_no v B (copy_invariant B v) out0 w (two_out tb L B (tb.carried B v) e))
           ]
 
   -- ---- what the loop takes from a use: it is an input of one of its nodes, or it is not taken, and waits until neither FOR nor END

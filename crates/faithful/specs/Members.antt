@@ -10,7 +10,7 @@ use Rattle.std.specs.Prelude.{◌≡◌, refl, ◌≢◌, Bool, true, false, ◌
 use Rattle.std.proofs.Common.{sym, ap, ◌∙◌, subst, arith, eqb→eq}
 use Rattle.std.proofs.Math.Dec.{eqb_refl}
 use Rattle.table.specs.Bodies.{Row, input, const, op, pick, for, arg, next, end, out, unknown}
-use Rattle.lowered.specs.Roles.{Role, op_node, stream, gate, guard, copySplit, copyInvariant, carry, argSplit}
+use Rattle.lowered.specs.Roles.{Role, op_node, stream, gate, guard, copy_split, copy_invariant, carry, arg_split}
 use Rattle.faithful.specs.Table.{Table, is_arg}
 
 pub eqb_yes : (u : ℕ) → eqb u u ≡ true
@@ -49,10 +49,10 @@ module _ (tb : Table) where
   in_loop L (stream M) = eqb M L
   in_loop L (gate M) = eqb M L
   in_loop L (guard M) = eqb M L
-  in_loop L (copySplit M v) = eqb M L && tb.carried M v
-  in_loop L (copyInvariant M v) = eqb M L && tb.carried M v
+  in_loop L (copy_split M v) = eqb M L && tb.carried M v
+  in_loop L (copy_invariant M v) = eqb M L && tb.carried M v
   in_loop L (carry a) = eqb (tb.loop a) L && is_arg (tb.row a)
-  in_loop L (argSplit a) = eqb (tb.loop a) L && is_arg (tb.row a)
+  in_loop L (arg_split a) = eqb (tb.loop a) L && is_arg (tb.row a)
 
   pub arg_row : (a : ℕ) → is_arg (tb.row a) ≡ true → (i : ℕ) × (tb.row a ≡ arg i)
   arg_row a h = go (tb.row a) refl h
@@ -92,10 +92,10 @@ module _ (tb : Table) where
   in_one L M (stream N) h n = one_in L M N h n
   in_one L M (gate N) h n = one_in L M N h n
   in_one L M (guard N) h n = one_in L M N h n
-  in_one L M (copySplit N v) h n = and_no (eqb N L) (tb.carried N v) (one_in L M N (and_l (eqb N M) (tb.carried N v) h) n)
-  in_one L M (copyInvariant N v) h n = and_no (eqb N L) (tb.carried N v) (one_in L M N (and_l (eqb N M) (tb.carried N v) h) n)
+  in_one L M (copy_split N v) h n = and_no (eqb N L) (tb.carried N v) (one_in L M N (and_l (eqb N M) (tb.carried N v) h) n)
+  in_one L M (copy_invariant N v) h n = and_no (eqb N L) (tb.carried N v) (one_in L M N (and_l (eqb N M) (tb.carried N v) h) n)
   in_one L M (carry a) h n = and_no (eqb (tb.loop a) L) (is_arg (tb.row a)) (one_in L M (tb.loop a) (and_l (eqb (tb.loop a) M) (is_arg (tb.row a)) h) n)
-  in_one L M (argSplit a) h n = and_no (eqb (tb.loop a) L) (is_arg (tb.row a)) (one_in L M (tb.loop a) (and_l (eqb (tb.loop a) M) (is_arg (tb.row a)) h) n)
+  in_one L M (arg_split a) h n = and_no (eqb (tb.loop a) L) (is_arg (tb.row a)) (one_in L M (tb.loop a) (and_l (eqb (tb.loop a) M) (is_arg (tb.row a)) h) n)
 
   -- a node of a loop is no OP or PICK
   pub no_op : (L r : ℕ) (n : Role) → in_loop L n ≡ true → n ≢ op_node r

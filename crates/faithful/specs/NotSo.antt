@@ -25,7 +25,8 @@ use Rattle.state.specs.Net.{fire, net_of}
 use Rattle.state.specs.Load.{loaded, start_word}
 use Rattle.state.specs.Run.{Outcome, ZERO-STEP, SPENT, turn, follow, sweep_from, sweeps, finish, run, any_ready, complete, results_full, others_empty, phases_zero, zero_step_at, first_from, outcome}
 use Rattle.confluence.specs.Orders.{fires, fires_none, fires_append}
-use Rattle.confluence.specs.Statements.{Fires, AtRest, every_order_rests_alike, none_rests_without_bound, run_of, made_by, run_counts_firings, run_is_an_order}
+use Rattle.confluence.specs.Statements.{Fires, AtRest, run_of, made_by}
+use Rattle.confluence.proofs.Statements.{every_order_rests_alike, none_rests_without_bound, run_counts_firings, run_is_an_order}
 use Rattle.table.specs.Rows.{size}
 use Rattle.table.specs.Check.{answer, table_refusal}
 use Rattle.table.specs.Cases.{const, loop, close, out}

@@ -15,7 +15,7 @@ use Rattle.std.proofs.Math.Decide.{dec_lt, dec_le}
 use Rattle.step.specs.Kinds.{Input}
 use Rattle.step.specs.Kept.{and_true}
 use Rattle.step.specs.Machines.{rest}
-use Rattle.lowered.specs.Roles.{Role, op_node, stream, gate, guard, copySplit, copyInvariant, carry, argSplit, Wire, start, output, into}
+use Rattle.lowered.specs.Roles.{Role, op_node, stream, gate, guard, copy_split, copy_invariant, carry, arg_split, Wire, start, output, into}
 use Rattle.uses.specs.Machine.{State}
 use Rattle.faithful.specs.Table.{Table, val, IsFor, wire_of, slot, src, is_arg, Real}
 use Rattle.faithful.specs.Members.{in_loop}
@@ -29,20 +29,20 @@ module _ (tb : Table) where
   role_at (stream L) = L
   role_at (gate L) = L
   role_at (guard L) = L
-  role_at (copySplit L v) = L
-  role_at (copyInvariant L v) = L
+  role_at (copy_split L v) = L
+  role_at (copy_invariant L v) = L
   role_at (carry a) = tb.loop a
-  role_at (argSplit a) = tb.loop a
+  role_at (arg_split a) = tb.loop a
 
   in_loop_at : (L : ℕ) (n : Role) → in_loop tb L n ≡ true → role_at n ≡ L
   in_loop_at L (op_node r) h = let z : ◌≡◌ {A = ℕ} 0 1 = cc in absurd (omega arith)
   in_loop_at L (stream M) h = eqb-true M L h
   in_loop_at L (gate M) h = eqb-true M L h
   in_loop_at L (guard M) h = eqb-true M L h
-  in_loop_at L (copySplit M v) h = eqb-true M L (and_true (eqb M L) (tb.carried M v) h).0
-  in_loop_at L (copyInvariant M v) h = eqb-true M L (and_true (eqb M L) (tb.carried M v) h).0
+  in_loop_at L (copy_split M v) h = eqb-true M L (and_true (eqb M L) (tb.carried M v) h).0
+  in_loop_at L (copy_invariant M v) h = eqb-true M L (and_true (eqb M L) (tb.carried M v) h).0
   in_loop_at L (carry a) h = eqb-true (tb.loop a) L (and_true (eqb (tb.loop a) L) (is_arg (tb.row a)) h).0
-  in_loop_at L (argSplit a) h = eqb-true (tb.loop a) L (and_true (eqb (tb.loop a) L) (is_arg (tb.row a)) h).0
+  in_loop_at L (arg_split a) h = eqb-true (tb.loop a) L (and_true (eqb (tb.loop a) L) (is_arg (tb.row a)) h).0
 
   pub rest_outside : Good tb → (pc : ℕ) (env : Env) (t : State) → Gamma tb pc env t → (n : Role) → Real tb n → ((L : ℕ) → IsFor tb L → role_at n ≡ L → Inside tb L pc → ⊥) → t.own n ≡ rest
   rest_outside g pc env t G n rl shut = go n rl shut
@@ -59,10 +59,10 @@ module _ (tb : Table) where
       go (stream L) rl shut = G.records_out (stream L) rl (shut L rl refl)
       go (gate L) rl shut = G.records_out (gate L) rl (shut L rl refl)
       go (guard L) rl shut = always (guard L) rl refl
-      go (copySplit L v) rl shut = always (copySplit L v) rl refl
-      go (copyInvariant L v) rl shut = G.records_out (copyInvariant L v) rl (shut L rl.0 refl)
+      go (copy_split L v) rl shut = always (copy_split L v) rl refl
+      go (copy_invariant L v) rl shut = G.records_out (copy_invariant L v) rl (shut L rl.0 refl)
       go (carry a) rl shut = G.records_out (carry a) rl (shut (tb.loop a) (g.arg_for a rl.0 rl.1) refl)
-      go (argSplit a) rl shut = always (argSplit a) rl refl
+      go (arg_split a) rl shut = always (arg_split a) rl refl
 
 -- ---- before a loop P of the outermost body
 module _ (tb : Table) (g : Good tb) (P : ℕ) (here : IsFor tb P) (outside : tb.reads P ≡ tb.size) where

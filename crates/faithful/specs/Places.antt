@@ -31,7 +31,7 @@ use Rattle.table.specs.Bodies.{Row, input, const, op, pick, for, arg, next, end,
 use Rattle.structure.specs.Structure.{Structure}
 use Rattle.lowered.specs.Gathered.{each, position}
 use Rattle.lowered.specs.Lists.{Among}
-use Rattle.lowered.specs.Roles.{Role, same_role, op_node, stream, gate, guard, copySplit, copyInvariant, carry, argSplit, Wire, same_wire, output, Use, into}
+use Rattle.lowered.specs.Roles.{Role, same_role, op_node, stream, gate, guard, copy_split, copy_invariant, carry, arg_split, Wire, same_wire, output, Use, into}
 use Rattle.lowered.specs.Sources.{source}
 use Rattle.lowered.specs.Lower.{roles, role_kind, role_code, role_outputs, outputs_by, starts, wires, wire_number, wire_sort, users, fork_rows, fork_wires, fork_nodes, leg_of, free_at, all_fork_wires, all_fork_nodes, users_each, plain_nodes, plain_wires, all_users, stands_by, stands_on, role_node, nodes_from, forks_from, lowered_nodes, node_total, wire_total, lowered_words}
 use Rattle.laid.specs.Lists.{in_range, has_elem, there, elem_left, elem_right, at_position, position_is}
@@ -325,10 +325,10 @@ module _ (t : List ℕ) (S : Structure t) where
   role_does (guard L) rl v =
       let w = Tables.for_words t S L rl.0 rl.1 rl.2 rl.3 rl.4 rl.5 in
       ap (λ (b : ℕ). perform (program Kinds.OP b v.own) v) (let e : 3 + word t L 5 ≡ suc (suc (suc rl.4)) = (let d = w.6 in omega arith) in e) ∙ ap (λ (z : Row). perform (Table.guard_program z v.own) v) (sym rl.5)
-  role_does (copySplit L x) rl v = refl
-  role_does (copyInvariant L x) rl v = refl
+  role_does (copy_split L x) rl v = refl
+  role_does (copy_invariant L x) rl v = refl
   role_does (carry a) rl v = refl
-  role_does (argSplit a) rl v = refl
+  role_does (arg_split a) rl v = refl
 
   -- a role's node is no FORK and no DRAIN
   pub aside : (n : Role) → Table.Real tb n → (w : Wire) → Made (plan tb) w → Among (num n) (forks w) → ⊥

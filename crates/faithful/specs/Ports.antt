@@ -10,13 +10,13 @@ use Rattle.std.proofs.Common.{ap, ◌∙◌, inl, inr}
 use Rattle.step.specs.Kinds.{Input, in0, in1, in2, Output, out0, out1}
 use Rattle.step.specs.Machines.{rest}
 use Rattle.table.specs.Bodies.{for}
-use Rattle.lowered.specs.Roles.{Role, op_node, stream, gate, guard, copySplit, copyInvariant, carry, argSplit, into}
+use Rattle.lowered.specs.Roles.{Role, op_node, stream, gate, guard, copy_split, copy_invariant, carry, arg_split, into}
 use Rattle.faithful.specs.Table.{Table, val, absent, named, IsFor, slot, is_arg}
 use Rattle.faithful.specs.Good.{Good}
 use Rattle.faithful.specs.Gamma.{Env, scope, held}
 use Rattle.faithful.specs.Members.{in_loop, eqb_yes, two_in, arg_in}
 use Rattle.faithful.specs.Stages.{Link, by_role}
-use Rattle.faithful.specs.Turn.{From, atFor, atEnd, row_of, body_of}
+use Rattle.faithful.specs.Turn.{From, at_a_for, at_an_end, row_of, body_of}
 
 pub data Port : Type 0 where
   link : Role → Output → Port
@@ -27,27 +27,27 @@ pub data Port : Type 0 where
 module _ (tb : Table) (s t b : ℕ) where
   abbrev pub port : Role → Input → Port
   port (op_node r) k = nothing
-  port (stream M) in0 = waits atFor s
-  port (stream M) in1 = waits atFor t
-  port (stream M) in2 = waits atFor b
+  port (stream M) in0 = waits at_a_for s
+  port (stream M) in1 = waits at_a_for t
+  port (stream M) in2 = waits at_a_for b
   port (gate M) in0 = link (stream M) out0
   port (gate M) in1 = link (stream M) out1
   port (gate M) in2 = nothing
-  port (guard M) in0 = waits atFor s
-  port (guard M) in1 = waits atFor b
+  port (guard M) in0 = waits at_a_for s
+  port (guard M) in1 = waits at_a_for b
   port (guard M) in2 = nothing
-  port (copySplit M v) in0 = link (guard M) out0
-  port (copySplit M v) in1 = waits atFor v
-  port (copySplit M v) in2 = nothing
-  port (copyInvariant M v) in0 = link (gate M) out1
-  port (copyInvariant M v) in1 = link (copySplit M v) out0
-  port (copyInvariant M v) in2 = nothing
+  port (copy_split M v) in0 = link (guard M) out0
+  port (copy_split M v) in1 = waits at_a_for v
+  port (copy_split M v) in2 = nothing
+  port (copy_invariant M v) in0 = link (gate M) out1
+  port (copy_invariant M v) in1 = link (copy_split M v) out0
+  port (copy_invariant M v) in2 = nothing
   port (carry a) in0 = link (stream (tb.loop a)) out1
-  port (carry a) in1 = waits atFor (named (tb.row a))
-  port (carry a) in2 = waits atEnd (named (tb.row (tb.next_of a)))
-  port (argSplit a) in0 = link (stream (tb.loop a)) out1
-  port (argSplit a) in1 = link (carry a) out0
-  port (argSplit a) in2 = nothing
+  port (carry a) in1 = waits at_a_for (named (tb.row a))
+  port (carry a) in2 = waits at_an_end (named (tb.row (tb.next_of a)))
+  port (arg_split a) in0 = link (stream (tb.loop a)) out1
+  port (arg_split a) in1 = link (carry a) out0
+  port (arg_split a) in2 = nothing
 
 module _ (tb : Table) (g : Good tb) (L s t b u c : ℕ) (q : tb.row L ≡ for s t b u c) where
   abbrev isfor : IsFor tb L

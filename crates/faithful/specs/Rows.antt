@@ -22,7 +22,7 @@ use Rattle.step.specs.Firing.{View, Effect, Program, perform, takes, room}
 use Rattle.step.specs.Machines.{program, rest}
 use Rattle.step.specs.declared.Record.{Record}
 use Rattle.table.specs.Bodies.{Row, input, const, op, pick, for, arg, next, end, out, unknown}
-use Rattle.lowered.specs.Roles.{Role, same_role, op_node, stream, gate, guard, copySplit, copyInvariant, carry, argSplit, Wire, start, output, Use, into, result}
+use Rattle.lowered.specs.Roles.{Role, same_role, op_node, stream, gate, guard, copy_split, copy_invariant, carry, arg_split, Wire, start, output, Use, into, result}
 use Rattle.uses.specs.Machine.{State, give_by, take_by, next_by, put, unless_taken, listed, given, taken, view_of, after, one, one_same, one_other, Steps}
 use Rattle.faithful.specs.Table.{Table, Slot, val, inner, absent, IsFor, wire_of, since, slot, slot_wire, src, is_op, is_start, Real, program_of, plan}
 use Rattle.faithful.specs.Good.{Inner, Good, Source, from_start, from_op, from_for, from_arg, from_next, from_copy, source, When, by_op, by_for, by_end, by_out, when, Inward, inward}
@@ -95,10 +95,10 @@ module _ (tb : Table) (g : Good tb) where
   real_body (stream L) rl = inr rl
   real_body (gate L) rl = inr rl
   real_body (guard L) rl = inl refl
-  real_body (copySplit L v) rl = inl refl
-  real_body (copyInvariant L v) rl = inr rl.0
+  real_body (copy_split L v) rl = inl refl
+  real_body (copy_invariant L v) rl = inr rl.0
   real_body (carry a) rl = inr (g.arg_for a rl.0 rl.1)
-  real_body (argSplit a) rl = inl refl
+  real_body (arg_split a) rl = inl refl
 
   -- the records where the same loops are open and their words the same
   pub recs_same : (pc pc' : ℕ) (env env' : Env) (n : Role) → Real tb n → (s s' : State) → Gamma tb pc env s → s'.own n ≡ s.own n

@@ -37,7 +37,7 @@ use Rattle.confluence.specs.Statements.{Fires}
 use Rattle.structure.specs.Structure.{Structure}
 use Rattle.reading.specs.Reading.{Outcome}
 use Rattle.lowered.specs.Lists.{Among, Once}
-use Rattle.lowered.specs.Roles.{Role, op_node, stream, gate, guard, copySplit, copyInvariant, carry, argSplit, same_role, Wire, start, output, Use, into, result}
+use Rattle.lowered.specs.Roles.{Role, op_node, stream, gate, guard, copy_split, copy_invariant, carry, arg_split, same_role, Wire, start, output, Use, into, result}
 use Rattle.lowered.specs.Lower.{roles, wire_number, users, fork_nodes, plain_nodes, all_users, start_total, lowered_words}
 use Rattle.laid.specs.Lists.{in_range, at_position}
 use Rattle.laid.specs.Listed.{role_row}
@@ -226,10 +226,10 @@ module _ (t : List ℕ) (S : Structure t) (ok : graph_refusal (lowered_words t) 
     at_row (stream L) rl = omega arith
     at_row (gate L) rl = omega arith
     at_row (guard L) rl = omega arith
-    at_row (copySplit L v) rl = omega arith
-    at_row (copyInvariant L v) rl = omega arith
+    at_row (copy_split L v) rl = omega arith
+    at_row (copy_invariant L v) rl = omega arith
     at_row (carry a) rl = let b = good.arg_low a rl.0 rl.1 in omega arith
-    at_row (argSplit a) rl = let b = good.arg_low a rl.0 rl.1 in omega arith
+    at_row (arg_split a) rl = let b = good.arg_low a rl.0 rl.1 in omega arith
 
     module _ (u : List ℕ) (U : Tokens) (R : Rep (node_count g) N u U) (H : Hushed U) where
       no_token : (n : Role) → Real tb n → role_at tb n < P → (k : Input) → token_on u (N.input (K.num n) k) ≡ none

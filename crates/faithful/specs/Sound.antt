@@ -17,7 +17,7 @@ use Rattle.structure.specs.Spans.{Encloses, same, inside, outermost}
 use Rattle.structure.specs.Operands.{Operand}
 use Rattle.structure.specs.Serving.{ArgRow, NextRow}
 use Rattle.structure.specs.Structure.{Structure}
-use Rattle.lowered.specs.Roles.{op_node, stream, gate, guard, copySplit, copyInvariant, carry, argSplit, Use, into, result}
+use Rattle.lowered.specs.Roles.{op_node, stream, gate, guard, copy_split, copy_invariant, carry, arg_split, Use, into, result}
 use Rattle.faithful.specs.Table.{Table, val, named, IsFor, born_by, born, slot, op_slot, stream_slot, guard_slot, gate_slot, copy_split_slot, copy_invariant_slot, carry_slot, arg_split_slot, result_slot, is_op, is_start, is_in, is_arg, is_for_row}
 use Rattle.faithful.specs.Good.{Inner, Used, Good}
 use Rattle.faithful.specs.Turn.{since_born}
@@ -240,7 +240,7 @@ module _ (t : List ℕ) (S : Structure t) where
       lu = let a = carried_before t S L u C in let b = C.below in omega arith
 
       ku : kind_at t u ≤ 6
-      ku = subst (λ (z : ℕ). kind_at t z ≤ 6) C.is_operand (S.operands C.row C.place C.row-Below C.place_below).is_value
+      ku = subst (λ (z : ℕ). kind_at t z ≤ 6) C.is_operand (S.operands C.row C.place C.row_below_lem C.place_below).is_value
 
       rb : reads t L ≡ body_of t L
       rb = S.reads_body L (λ z. let k = C.is_loop in omega arith)
@@ -360,10 +360,10 @@ module _ (t : List ℕ) (S : Structure t) where
   every_use (into (stream L) k) v B c h = use_stream L (tb.row L) k v B c refl h
   every_use (into (gate L) k) v B c h = absurd (not_gate (is_for_row (tb.row L)) L k v B c h)
   every_use (into (guard L) k) v B c h = use_guard L (tb.row L) k v B c refl h
-  every_use (into (copySplit L u) k) v B c h = use_copy L u (tb.carried L u) k v B c refl h
-  every_use (into (copyInvariant L u) k) v B c h = absurd (not_copy (tb.carried L u) (tb.reads L) L u k v B c h)
+  every_use (into (copy_split L u) k) v B c h = use_copy L u (tb.carried L u) k v B c refl h
+  every_use (into (copy_invariant L u) k) v B c h = absurd (not_copy (tb.carried L u) (tb.reads L) L u k v B c h)
   every_use (into (carry a) k) v B c h = use_carry a (tb.row a) k v B c refl h
-  every_use (into (argSplit a) k) v B c h = absurd (not_arg (is_arg (tb.row a)) (body_of t a) a k v B c h)
+  every_use (into (arg_split a) k) v B c h = absurd (not_arg (is_arg (tb.row a)) (body_of t a) a k v B c h)
   every_use (result q) v B c h = use_result q (tb.row q) v B c refl h
 
   -- ---- rows by their form
@@ -487,4 +487,4 @@ module _ (t : List ℕ) (S : Structure t) where
     where
       home_is : (L v : ℕ) → CarriedBy t S L v → tb.home v ≡ home t v
       home_is L v C = Tables.home_of t v (let a = carried_before t S L v C in let l = C.below in omega arith)
-          (subst (λ (z : ℕ). kind_at t z ≤ 6) C.is_operand (S.operands C.row C.place C.row-Below C.place_below).is_value)
+          (subst (λ (z : ℕ). kind_at t z ≤ 6) C.is_operand (S.operands C.row C.place C.row_below_lem C.place_below).is_value)

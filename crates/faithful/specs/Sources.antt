@@ -20,7 +20,7 @@ use Rattle.table.specs.Scan.{body_of, reads, home}
 use Rattle.table.specs.Bodies.{Row, input, const, op, pick, for, arg, next, end, out, unknown, operand, arg_of, next_of}
 use Rattle.structure.specs.Structure.{Structure}
 use Rattle.lowered.specs.Lists.{Among}
-use Rattle.lowered.specs.Roles.{Role, op_node, stream, gate, guard, copySplit, copyInvariant, carry, argSplit, Wire, start, output, Use, into, result}
+use Rattle.lowered.specs.Roles.{Role, op_node, stream, gate, guard, copy_split, copy_invariant, carry, arg_split, Wire, start, output, Use, into, result}
 use Rattle.lowered.specs.Sources.{home_wire, value_wire, source, is_for, is_arg_row, carried}
 use Rattle.lowered.specs.Lower.{role_kind}
 use Rattle.lowered.specs.Sources
@@ -40,7 +40,7 @@ module _ (t : List ℕ) (S : Structure t) where
 
   -- ---- values
 
-  home_wire_lem : (v B : ℕ) (b : Bool) → v < size t → kind_at t v ≤ 6 → wire_by b (tb.row v) v (arg_of t v) B ≡ cond b (home_wire t v) (output (copyInvariant B v) out0)
+  home_wire_lem : (v B : ℕ) (b : Bool) → v < size t → kind_at t v ≤ 6 → wire_by b (tb.row v) v (arg_of t v) B ≡ cond b (home_wire t v) (output (copy_invariant B v) out0)
   home_wire_lem v B false l k = refl
   home_wire_lem v B true l k = go (tb.row v) (Tables.row_kind_lem t S v l)
     where
@@ -203,21 +203,21 @@ module _ (t : List ℕ) (S : Structure t) where
 
   -- ---- copies
 
-  split_source : (L v : ℕ) (b : Bool) → tb.carried L v ≡ b → (k : Input) → slot_wire tb (copy_split_slot b (reads t L) L v k) ≡ source t (into (copySplit L v) k)
-  split_source L v false e k = sym (none_there (copySplit L v) k e)
-  split_source L v true e in0 = sym (node_feed t (copySplit L v) in0 e)
+  split_source : (L v : ℕ) (b : Bool) → tb.carried L v ≡ b → (k : Input) → slot_wire tb (copy_split_slot b (reads t L) L v k) ≡ source t (into (copy_split L v) k)
+  split_source L v false e k = sym (none_there (copy_split L v) k e)
+  split_source L v true e in0 = sym (node_feed t (copy_split L v) in0 e)
   split_source L v true e in1 =
       let C = carried_by t S L v e in
       let lv : v < size t = let a = carried_before t S L v C in let b = C.below in omega arith in
-      let kv : kind_at t v ≤ 6 = subst (λ (z : ℕ). kind_at t z ≤ 6) C.is_operand (S.operands C.row C.place C.row-Below C.place_below).is_value in
-      ap some (value_wire_lem v (reads t L) lv kv) ∙ sym (node_feed t (copySplit L v) in1 e)
-  split_source L v true e in2 = sym (node_feed t (copySplit L v) in2 e)
+      let kv : kind_at t v ≤ 6 = subst (λ (z : ℕ). kind_at t z ≤ 6) C.is_operand (S.operands C.row C.place C.row_below_lem C.place_below).is_value in
+      ap some (value_wire_lem v (reads t L) lv kv) ∙ sym (node_feed t (copy_split L v) in1 e)
+  split_source L v true e in2 = sym (node_feed t (copy_split L v) in2 e)
 
-  invariant_source : (L v : ℕ) (b : Bool) → tb.carried L v ≡ b → (k : Input) → slot_wire tb (copy_invariant_slot b (tb.reads L) L v k) ≡ source t (into (copyInvariant L v) k)
-  invariant_source L v false e k = sym (none_there (copyInvariant L v) k e)
-  invariant_source L v true e in0 = sym (node_feed t (copyInvariant L v) in0 e)
-  invariant_source L v true e in1 = sym (node_feed t (copyInvariant L v) in1 e)
-  invariant_source L v true e in2 = sym (node_feed t (copyInvariant L v) in2 e)
+  invariant_source : (L v : ℕ) (b : Bool) → tb.carried L v ≡ b → (k : Input) → slot_wire tb (copy_invariant_slot b (tb.reads L) L v k) ≡ source t (into (copy_invariant L v) k)
+  invariant_source L v false e k = sym (none_there (copy_invariant L v) k e)
+  invariant_source L v true e in0 = sym (node_feed t (copy_invariant L v) in0 e)
+  invariant_source L v true e in1 = sym (node_feed t (copy_invariant L v) in1 e)
+  invariant_source L v true e in2 = sym (node_feed t (copy_invariant L v) in2 e)
 
   -- ---- ARG
 
@@ -250,11 +250,11 @@ module _ (t : List ℕ) (S : Structure t) where
   carry_source a (out x) q k = sym (none_there (carry a) k (Tables.kind_arg t S a ∙ ap is_arg q))
   carry_source a unknown q k = sym (none_there (carry a) k (Tables.kind_arg t S a ∙ ap is_arg q))
 
-  arg_source : (a : ℕ) (b : Bool) → is_arg (tb.row a) ≡ b → (k : Input) → slot_wire tb (arg_split_slot b (body_of t a) a k) ≡ source t (into (argSplit a) k)
-  arg_source a false e k = sym (none_there (argSplit a) k (Tables.kind_arg t S a ∙ e))
-  arg_source a true e in0 = sym (node_feed t (argSplit a) in0 (Tables.kind_arg t S a ∙ e))
-  arg_source a true e in1 = sym (node_feed t (argSplit a) in1 (Tables.kind_arg t S a ∙ e))
-  arg_source a true e in2 = sym (node_feed t (argSplit a) in2 (Tables.kind_arg t S a ∙ e))
+  arg_source : (a : ℕ) (b : Bool) → is_arg (tb.row a) ≡ b → (k : Input) → slot_wire tb (arg_split_slot b (body_of t a) a k) ≡ source t (into (arg_split a) k)
+  arg_source a false e k = sym (none_there (arg_split a) k (Tables.kind_arg t S a ∙ e))
+  arg_source a true e in0 = sym (node_feed t (arg_split a) in0 (Tables.kind_arg t S a ∙ e))
+  arg_source a true e in1 = sym (node_feed t (arg_split a) in1 (Tables.kind_arg t S a ∙ e))
+  arg_source a true e in2 = sym (node_feed t (arg_split a) in2 (Tables.kind_arg t S a ∙ e))
 
   -- ---- results
 
@@ -280,10 +280,10 @@ module _ (t : List ℕ) (S : Structure t) where
   source_is (into (stream L) k) = stream_source L (tb.row L) refl k
   source_is (into (gate L) k) = gate_source L (is_for_row (tb.row L)) refl k
   source_is (into (guard L) k) = guard_source L (tb.row L) refl k
-  source_is (into (copySplit L v) k) = split_source L v (tb.carried L v) refl k
-  source_is (into (copyInvariant L v) k) = invariant_source L v (tb.carried L v) refl k
+  source_is (into (copy_split L v) k) = split_source L v (tb.carried L v) refl k
+  source_is (into (copy_invariant L v) k) = invariant_source L v (tb.carried L v) refl k
   source_is (into (carry a) k) = carry_source a (tb.row a) refl k
-  source_is (into (argSplit a) k) = arg_source a (is_arg (tb.row a)) refl k
+  source_is (into (arg_split a) k) = arg_source a (is_arg (tb.row a)) refl k
   source_is (result q) = result_source q (tb.row q) refl
 
   -- ---- nodes
@@ -311,10 +311,10 @@ module _ (t : List ℕ) (S : Structure t) where
   to_real (stream L) rl = for_real (stream L) L rl refl refl refl
   to_real (gate L) rl = for_real (gate L) L rl refl refl refl
   to_real (guard L) rl = for_real (guard L) L rl refl refl refl
-  to_real (copySplit L v) rl = copy_real (copySplit L v) L v rl.1 refl refl refl
-  to_real (copyInvariant L v) rl = copy_real (copyInvariant L v) L v rl.1 refl refl refl
+  to_real (copy_split L v) rl = copy_real (copy_split L v) L v rl.1 refl refl refl
+  to_real (copy_invariant L v) rl = copy_real (copy_invariant L v) L v rl.1 refl refl refl
   to_real (carry a) rl = arg_real (carry a) a rl.0 rl.1 refl refl refl
-  to_real (argSplit a) rl = arg_real (argSplit a) a rl.0 rl.1 refl refl refl
+  to_real (arg_split a) rl = arg_real (arg_split a) a rl.0 rl.1 refl refl refl
 
   arg_form : (a : ℕ) → is_arg_row t a ≡ true → (i : ℕ) × (tb.row a ≡ arg i)
   arg_form a h = let k = eqb-true (kind_at t a) 5 h in (word t a 1, Tables.row_at_lem t a (Tables.below_by_kind t S a 4 k) ∙ Tables.is_arg_lem t a k)
@@ -324,10 +324,10 @@ module _ (t : List ℕ) (S : Structure t) where
   from_real (stream L) rl = Tables.for_row t S L (eqb-true (kind_at t L) 4 rl.there)
   from_real (gate L) rl = Tables.for_row t S L (eqb-true (kind_at t L) 4 rl.there)
   from_real (guard L) rl = Tables.for_row t S L (eqb-true (kind_at t L) 4 rl.there)
-  from_real (copySplit L v) rl = (Tables.for_row t S L (carried_by t S L v rl.there).is_loop, rl.there)
-  from_real (copyInvariant L v) rl = (Tables.for_row t S L (carried_by t S L v rl.there).is_loop, rl.there)
+  from_real (copy_split L v) rl = (Tables.for_row t S L (carried_by t S L v rl.there).is_loop, rl.there)
+  from_real (copy_invariant L v) rl = (Tables.for_row t S L (carried_by t S L v rl.there).is_loop, rl.there)
   from_real (carry a) rl = arg_form a rl.there
-  from_real (argSplit a) rl = arg_form a rl.there
+  from_real (arg_split a) rl = arg_form a rl.there
 
   -- a node that takes something is in the table
   op_cases : (r : ℕ) → (eqb (kind_at t r) 2 || eqb (kind_at t r) 3) ≡ true → r < size t
@@ -342,10 +342,10 @@ module _ (t : List ℕ) (S : Structure t) where
   real_if_has (stream L) h = let l = Tables.below_by_kind t S L 3 (eqb-true (kind_at t L) 4 h) in record { row = l; value = l; there = h }
   real_if_has (gate L) h = let l = Tables.below_by_kind t S L 3 (eqb-true (kind_at t L) 4 h) in record { row = l; value = l; there = h }
   real_if_has (guard L) h = let l = Tables.below_by_kind t S L 3 (eqb-true (kind_at t L) 4 h) in record { row = l; value = l; there = h }
-  real_if_has (copySplit L v) h = copy_real (copySplit L v) L v h refl refl refl
-  real_if_has (copyInvariant L v) h = copy_real (copyInvariant L v) L v h refl refl refl
+  real_if_has (copy_split L v) h = copy_real (copy_split L v) L v h refl refl refl
+  real_if_has (copy_invariant L v) h = copy_real (copy_invariant L v) L v h refl refl refl
   real_if_has (carry a) h = let l = Tables.below_by_kind t S a 4 (eqb-true (kind_at t a) 5 h) in record { row = l; value = l; there = h }
-  real_if_has (argSplit a) h = let l = Tables.below_by_kind t S a 4 (eqb-true (kind_at t a) 5 h) in record { row = l; value = l; there = h }
+  real_if_has (arg_split a) h = let l = Tables.below_by_kind t S a 4 (eqb-true (kind_at t a) 5 h) in record { row = l; value = l; there = h }
 
   pub use_is_listed : (p : Use) (w : Wire) → source t p ≡ some w → Among p (Lower.uses t)
   use_is_listed (into n k) w h = go (Sources.has t n) refl
@@ -374,14 +374,14 @@ module _ (t : List ℕ) (S : Structure t) where
   has_out (gate L) out1 h = omega arith
   has_out (guard L) out0 h = omega arith
   has_out (guard L) out1 h = absurd h
-  has_out (copySplit L v) out0 h = omega arith
-  has_out (copySplit L v) out1 h = omega arith
-  has_out (copyInvariant L v) out0 h = omega arith
-  has_out (copyInvariant L v) out1 h = absurd h
+  has_out (copy_split L v) out0 h = omega arith
+  has_out (copy_split L v) out1 h = omega arith
+  has_out (copy_invariant L v) out0 h = omega arith
+  has_out (copy_invariant L v) out1 h = absurd h
   has_out (carry a) out0 h = omega arith
   has_out (carry a) out1 h = absurd h
-  has_out (argSplit a) out0 h = omega arith
-  has_out (argSplit a) out1 h = omega arith
+  has_out (arg_split a) out0 h = omega arith
+  has_out (arg_split a) out1 h = omega arith
 
   out_has : (n : Role) (o : Output) → output_place o < outputs (role_kind t n) → HasOut n o
   out_has n out0 h = tt
@@ -389,10 +389,10 @@ module _ (t : List ℕ) (S : Structure t) where
   out_has (stream L) out1 h = tt
   out_has (gate L) out1 h = tt
   out_has (guard L) out1 h = absurd (omega arith)
-  out_has (copySplit L v) out1 h = tt
-  out_has (copyInvariant L v) out1 h = absurd (omega arith)
+  out_has (copy_split L v) out1 h = tt
+  out_has (copy_invariant L v) out1 h = absurd (omega arith)
   out_has (carry a) out1 h = absurd (omega arith)
-  out_has (argSplit a) out1 h = tt
+  out_has (arg_split a) out1 h = tt
 
   kind_in : (v : ℕ) → v < size t → is_in (tb.row v) ≡ leb (kind_at t v) 1
   kind_in v l = go (tb.row v) (Tables.row_kind_lem t S v l)

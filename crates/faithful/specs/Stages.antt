@@ -16,7 +16,7 @@ use Rattle.std.proofs.Math.Decide.{ℕ_discrete}
 use Rattle.step.specs.Kinds.{Input, in0, in1, Output, out0, out1}
 use Rattle.step.specs.Firing.{Effect, perform, gives, room}
 use Rattle.table.specs.Bodies.{arg}
-use Rattle.lowered.specs.Roles.{Role, op_node, stream, gate, guard, copySplit, copyInvariant, carry, argSplit, Wire, output, Use, into}
+use Rattle.lowered.specs.Roles.{Role, op_node, stream, gate, guard, copy_split, copy_invariant, carry, arg_split, Wire, output, Use, into}
 use Rattle.uses.specs.Machine.{State, give_by, take_by, next_by, put, unless_taken, listed, given, taken, view_of, after, Ready, Steps, steps_append}
 use Rattle.faithful.specs.Table.{Table, Slot, val, inner, IsFor, wire_of, slot, slot_wire, src, is_arg, Real, program_of, plan}
 use Rattle.faithful.specs.Members.{in_loop, arg_row, in_two, in_arg, is_eqb, in_one}
@@ -115,17 +115,17 @@ module _ (tb : Table) (g : Good tb) (L : ℕ) (f : IsFor tb L) where
   own_out e s n h = ap (λ (z : Option Effect). next_by z (s.own n)) (only_no tb L e n h)
 
   -- what holds for the roles of L, as they are named
-  pub by_role : (P : Role → Type 0) → P (stream L) → P (gate L) → P (guard L) → ((v : ℕ) → tb.carried L v ≡ true → P (copySplit L v)) → ((v : ℕ) → tb.carried L v ≡ true → P (copyInvariant L v))
-      → ((a i : ℕ) → tb.row a ≡ arg i → tb.loop a ≡ L → P (carry a)) → ((a i : ℕ) → tb.row a ≡ arg i → tb.loop a ≡ L → P (argSplit a))
+  pub by_role : (P : Role → Type 0) → P (stream L) → P (gate L) → P (guard L) → ((v : ℕ) → tb.carried L v ≡ true → P (copy_split L v)) → ((v : ℕ) → tb.carried L v ≡ true → P (copy_invariant L v))
+      → ((a i : ℕ) → tb.row a ≡ arg i → tb.loop a ≡ L → P (carry a)) → ((a i : ℕ) → tb.row a ≡ arg i → tb.loop a ≡ L → P (arg_split a))
       → (n : Role) → in_loop tb L n ≡ true → P n
   by_role P h1 h2 h3 h4 h5 h6 h7 (op_node r) h = let z : ◌≡◌ {A = ℕ} 0 1 = cc in absurd (omega arith)
   by_role P h1 h2 h3 h4 h5 h6 h7 (stream M) h = subst (λ (z : ℕ). P (stream z)) (sym (is_eqb M L h)) h1
   by_role P h1 h2 h3 h4 h5 h6 h7 (gate M) h = subst (λ (z : ℕ). P (gate z)) (sym (is_eqb M L h)) h2
   by_role P h1 h2 h3 h4 h5 h6 h7 (guard M) h = subst (λ (z : ℕ). P (guard z)) (sym (is_eqb M L h)) h3
-  by_role P h1 h2 h3 h4 h5 h6 h7 (copySplit M v) h = let q = in_two tb L M v h in subst (λ (z : ℕ). P (copySplit z v)) (sym q.0) (h4 v (subst (λ (z : ℕ). tb.carried z v ≡ true) q.0 q.1))
-  by_role P h1 h2 h3 h4 h5 h6 h7 (copyInvariant M v) h = let q = in_two tb L M v h in subst (λ (z : ℕ). P (copyInvariant z v)) (sym q.0) (h5 v (subst (λ (z : ℕ). tb.carried z v ≡ true) q.0 q.1))
+  by_role P h1 h2 h3 h4 h5 h6 h7 (copy_split M v) h = let q = in_two tb L M v h in subst (λ (z : ℕ). P (copy_split z v)) (sym q.0) (h4 v (subst (λ (z : ℕ). tb.carried z v ≡ true) q.0 q.1))
+  by_role P h1 h2 h3 h4 h5 h6 h7 (copy_invariant M v) h = let q = in_two tb L M v h in subst (λ (z : ℕ). P (copy_invariant z v)) (sym q.0) (h5 v (subst (λ (z : ℕ). tb.carried z v ≡ true) q.0 q.1))
   by_role P h1 h2 h3 h4 h5 h6 h7 (carry a) h = let q = in_arg tb L a h in let r = arg_row tb a q.1 in h6 a r.0 r.1 q.0
-  by_role P h1 h2 h3 h4 h5 h6 h7 (argSplit a) h = let q = in_arg tb L a h in let r = arg_row tb a q.1 in h7 a r.0 r.1 q.0
+  by_role P h1 h2 h3 h4 h5 h6 h7 (arg_split a) h = let q = in_arg tb L a h in let r = arg_row tb a q.1 in h7 a r.0 r.1 q.0
 
   pub real_in : (n : Role) → in_loop tb L n ≡ true → Real tb n
   real_in = by_role (Real tb) f f f (λ v h. (f, h)) (λ v h. (f, h)) (λ a i h _. (i, h)) (λ a i h _. (i, h))

@@ -46,7 +46,8 @@ use Rattle.state.specs.Load.{loaded}
 use Rattle.state.specs.Net.{net_of}
 use Rattle.state.specs.Run
 use Rattle.state.specs.Run.{COMPLETE, SPENT, STRANDED, ZERO-STEP, outcome}
-use Rattle.confluence.specs.Statements.{Fires, AtRest, put_on_wire, every_order_rests_alike, run_of, made_by, enough_is_not_spent, run_is_an_order}
+use Rattle.confluence.specs.Statements.{Fires, AtRest, put_on_wire, run_of, made_by}
+use Rattle.confluence.proofs.Statements.{every_order_rests_alike, enough_is_not_spent, run_is_an_order}
 use Rattle.table.specs.Rows.{kind_at, size, FOR}
 use Rattle.table.specs.Scan.{body_of, read_stack, reads}
 use Rattle.table.specs.Check.{table_refusal, answer}

@@ -20,7 +20,7 @@ use Rattle.step.specs.Locality.{asking_inv, giving_inv, taking_gives}
 use Rattle.step.specs.declared.Record.{Record}
 use Rattle.step.specs.Machines
 use Rattle.table.specs.Bodies.{Row, input, const, op, pick, for, arg, next, end, out, unknown}
-use Rattle.lowered.specs.Roles.{Role, op_node, stream, gate, guard, copySplit, copyInvariant, carry, argSplit, Wire, start, output, Use, into, result}
+use Rattle.lowered.specs.Roles.{Role, op_node, stream, gate, guard, copy_split, copy_invariant, carry, arg_split, Wire, start, output, Use, into, result}
 use Rattle.uses.specs.Machine.{Plan}
 
 -- A table with what one scan says of it. A body is a loop's FOR row, or `size` for the outermost.
@@ -67,14 +67,14 @@ home_wire (const w) v a = start v
 home_wire (op c x y) v a = output (op_node v) out0
 home_wire (pick f x y) v a = output (op_node v) out0
 home_wire (for s t b u c) v a = output (gate v) out0
-home_wire (arg i) v a = output (argSplit v) out0
-home_wire (next x) v a = output (argSplit a) out1
+home_wire (arg i) v a = output (arg_split v) out0
+home_wire (next x) v a = output (arg_split a) out1
 home_wire end v a = start v
 home_wire unknown v a = start v
 home_wire (out x) v a = start v
 
 abbrev pub wire_by : Bool → Row → ℕ → ℕ → ℕ → Wire
-wire_by false r v a B = output (copyInvariant B v) out0
+wire_by false r v a B = output (copy_invariant B v) out0
 wire_by true r v a B = home_wire r v a
 
 -- from which row on a value's tokens stand in its home
@@ -180,7 +180,7 @@ copy_split_slot true B L v in2 = absent
 abbrev pub copy_invariant_slot : Bool → ℕ → ℕ → ℕ → Input → Slot
 copy_invariant_slot false B L v k = absent
 copy_invariant_slot true B L v in0 = inner (output (gate L) out1)
-copy_invariant_slot true B L v in1 = inner (output (copySplit L v) out0)
+copy_invariant_slot true B L v in1 = inner (output (copy_split L v) out0)
 copy_invariant_slot true B L v in2 = absent
 
 -- i: the initial, B: where it is read; L: the loop; w: what its NEXT names; e: the END
@@ -286,10 +286,10 @@ module _ (tb : Table) where
   slot (into (stream L) k) = stream_slot (tb.row L) (tb.reads L) L k
   slot (into (gate L) k) = gate_slot (is_for_row (tb.row L)) L k
   slot (into (guard L) k) = guard_slot (tb.row L) (tb.reads L) L k
-  slot (into (copySplit L v) k) = copy_split_slot (tb.carried L v) (tb.reads L) L v k
-  slot (into (copyInvariant L v) k) = copy_invariant_slot (tb.carried L v) (tb.reads L) L v k
+  slot (into (copy_split L v) k) = copy_split_slot (tb.carried L v) (tb.reads L) L v k
+  slot (into (copy_invariant L v) k) = copy_invariant_slot (tb.carried L v) (tb.reads L) L v k
   slot (into (carry a) k) = carry_slot (tb.row a) (tb.reads (tb.loop a)) (tb.loop a) (named (tb.row (tb.next_of a))) (tb.last (tb.loop a)) k
-  slot (into (argSplit a) k) = arg_split_slot (is_arg (tb.row a)) (tb.loop a) a k
+  slot (into (arg_split a) k) = arg_split_slot (is_arg (tb.row a)) (tb.loop a) a k
   slot (result q) = result_slot (tb.row q) tb.size (suc tb.size)
 
   abbrev pub slot_wire : Slot → Option Wire
@@ -305,10 +305,10 @@ module _ (tb : Table) where
   program_of (stream L) = stream_program (tb.row L)
   program_of (gate L) = program GATE 0
   program_of (guard L) = guard_program (tb.row L)
-  program_of (copySplit L v) = program SPLIT 0
-  program_of (copyInvariant L v) = program INVARIANT 0
+  program_of (copy_split L v) = program SPLIT 0
+  program_of (copy_invariant L v) = program INVARIANT 0
   program_of (carry a) = program CARRY 0
-  program_of (argSplit a) = program SPLIT 0
+  program_of (arg_split a) = program SPLIT 0
 
   -- the roles that the table has
   abbrev pub is_op : Row → Bool
@@ -341,10 +341,10 @@ module _ (tb : Table) where
   Real (stream L) = IsFor L
   Real (gate L) = IsFor L
   Real (guard L) = IsFor L
-  Real (copySplit L v) = IsFor L × (tb.carried L v ≡ true)
-  Real (copyInvariant L v) = IsFor L × (tb.carried L v ≡ true)
+  Real (copy_split L v) = IsFor L × (tb.carried L v ≡ true)
+  Real (copy_invariant L v) = IsFor L × (tb.carried L v ≡ true)
   Real (carry a) = (i : ℕ) × (tb.row a ≡ arg i)
-  Real (argSplit a) = (i : ℕ) × (tb.row a ≡ arg i)
+  Real (arg_split a) = (i : ℕ) × (tb.row a ≡ arg i)
 
 -- ---- the plan of a table
 
@@ -417,10 +417,10 @@ HasOut (op_node r) out1 = ⊥
 HasOut (stream L) out1 = Unit {0}
 HasOut (gate L) out1 = Unit {0}
 HasOut (guard L) out1 = ⊥
-HasOut (copySplit L v) out1 = Unit {0}
-HasOut (copyInvariant L v) out1 = ⊥
+HasOut (copy_split L v) out1 = Unit {0}
+HasOut (copy_invariant L v) out1 = ⊥
 HasOut (carry a) out1 = ⊥
-HasOut (argSplit a) out1 = Unit {0}
+HasOut (arg_split a) out1 = Unit {0}
 
 not_both : {A : Type 0} (o : Option ℕ) (y : ℕ) → o ≡ none → o ≡ some y → A
 not_both o y a b = let z : ◌≡◌ {A = ℕ} 0 1 = cc in absurd (omega arith)
@@ -431,10 +431,10 @@ has_out tb (op_node x) r v e q out1 y h = not_both (gives e out1) y (one_out (pr
 has_out tb (stream L) r v e q out1 y h = tt
 has_out tb (gate L) r v e q out1 y h = tt
 has_out tb (guard L) r v e q out1 y h = not_both (gives e out1) y (one_out (program_of tb (guard L) r) (guard_one (tb.row L) r) v e q) h
-has_out tb (copySplit L x) r v e q out1 y h = tt
-has_out tb (copyInvariant L x) r v e q out1 y h = not_both (gives e out1) y (one_out (program_of tb (copyInvariant L x) r) (invariant_one r r.phase) v e q) h
+has_out tb (copy_split L x) r v e q out1 y h = tt
+has_out tb (copy_invariant L x) r v e q out1 y h = not_both (gives e out1) y (one_out (program_of tb (copy_invariant L x) r) (invariant_one r r.phase) v e q) h
 has_out tb (carry a) r v e q out1 y h = not_both (gives e out1) y (one_out (program_of tb (carry a) r) (carry_one r.phase) v e q) h
-has_out tb (argSplit a) r v e q out1 y h = tt
+has_out tb (arg_split a) r v e q out1 y h = tt
 
 abbrev pub plan : Table → Plan
 plan tb =

@@ -15,7 +15,7 @@ use Rattle.std.proofs.Math.Decide.{ℕ_discrete, dec_le}
 use Rattle.step.specs.Firing.{Effect}
 use Rattle.step.specs.declared.Record.{Record}
 use Rattle.table.specs.Bodies.{Row, input, const, op, pick, for, arg, next, end, out, unknown}
-use Rattle.lowered.specs.Roles.{Role, op_node, stream, gate, guard, copySplit, copyInvariant, carry, argSplit}
+use Rattle.lowered.specs.Roles.{Role, op_node, stream, gate, guard, copy_split, copy_invariant, carry, arg_split}
 use Rattle.faithful.specs.Table.{Table, since_by, IsFor, born, since, is_arg, Real}
 use Rattle.faithful.specs.Good.{Inner, Used, Good}
 use Rattle.faithful.specs.Gamma.{Env, Live, Inside, scope, Rel, before, behind, inside, around, rel, since_head, since_in, since_own}
@@ -25,7 +25,7 @@ use Rattle.faithful.specs.Loop.{for_below, reads_not}
 
 -- the row where a step begins
 pub data From : Type 0 where
-  atFor atEnd : From
+  at_a_for at_an_end : From
 
 -- where it leads: to a turn, with the index and the ARGs' words, or out, with the NEXTs' words
 pub data To : Type 0 where
@@ -101,13 +101,13 @@ module _ (tb : Table) where
   turn_env L x h env = set_to L x (args_to L h env)
 
   abbrev pub row_of : ℕ → From → ℕ
-  row_of L atFor = L
-  row_of L atEnd = tb.last L
+  row_of L at_a_for = L
+  row_of L at_an_end = tb.last L
 
   -- the body in which its uses are read
   abbrev pub body_of : ℕ → From → ℕ
-  body_of L atFor = tb.reads L
-  body_of L atEnd = L
+  body_of L at_a_for = tb.reads L
+  body_of L at_an_end = L
 
   abbrev pub row_to : ℕ → To → ℕ
   row_to L (turn x h) = tb.first L
@@ -204,14 +204,14 @@ module _ (tb : Table) where
     scope_not (stream M) rl h e = let z : eqb M L ≡ true = ap (λ (y : ℕ). eqb y L) e ∙ eqb_yes L in let z : ◌≡◌ {A = ℕ} 0 1 = cc in omega arith
     scope_not (gate M) rl h e = let z : eqb M L ≡ true = ap (λ (y : ℕ). eqb y L) e ∙ eqb_yes L in let z : ◌≡◌ {A = ℕ} 0 1 = cc in omega arith
     scope_not (guard M) rl h e = let a = for_below tb g L f in omega arith
-    scope_not (copySplit M v) rl h e = let a = for_below tb g L f in omega arith
-    scope_not (copyInvariant M v) rl h e =
+    scope_not (copy_split M v) rl h e = let a = for_below tb g L f in omega arith
+    scope_not (copy_invariant M v) rl h e =
         let z : (eqb M L && tb.carried M v) ≡ true = ap₂ (λ (x : ℕ) (y : Bool). eqb x L && y) e rl.1 ∙ ap (λ (x : Bool). x && true) (eqb_yes L) in
         let z : ◌≡◌ {A = ℕ} 0 1 = cc in omega arith
     scope_not (carry a) rl h e =
         let z : (eqb (tb.loop a) L && is_arg (tb.row a)) ≡ true = arg_in tb L a e (ap is_arg rl.1) in
         let z : ◌≡◌ {A = ℕ} 0 1 = cc in omega arith
-    scope_not (argSplit a) rl h e = let a = for_below tb g L f in omega arith
+    scope_not (arg_split a) rl h e = let a = for_below tb g L f in omega arith
 
     -- ---- bodies around L. The row where a step begins and the one where it leads are edges of L: in its head, at its END or just behind it. Another
     -- body holds an edge exactly if it holds all of L, so what does not touch L is the same at all edges.
@@ -232,8 +232,8 @@ module _ (tb : Table) where
     exit_edge = let ff = g.for_first L f in let fl = g.for_last L f in (omega arith, omega arith, inr (omega arith))
 
     pub begins_edge : (from : From) → Edge (row_of L from)
-    begins_edge atFor = for_edge
-    begins_edge atEnd = end_edge
+    begins_edge at_a_for = for_edge
+    begins_edge at_an_end = end_edge
 
     pub leads_edge : (to : To) → Edge (row_to L to)
     leads_edge (turn x h) = turn_edge
@@ -312,20 +312,20 @@ module _ (tb : Table) where
         ]
       where
         own : (from : From) → c ≢ row_of L from → B ≡ L → Live tb v B c (row_of L from) → ⊥
-        own atFor n e l = let fe : tb.first B ≡ tb.first L = ap tb.first e in let ff = g.for_first L f in let l0 = l.0 in omega arith
-        own atEnd n e l = let le : tb.last B ≡ tb.last L = ap tb.last e in let hi : c ≤ tb.last B = us.place.high in let l3 = l.3 in omega arith
+        own at_a_for n e l = let fe : tb.first B ≡ tb.first L = ap tb.first e in let ff = g.for_first L f in let l0 = l.0 in omega arith
+        own at_an_end n e l = let le : tb.last B ≡ tb.last L = ap tb.last e in let hi : c ≤ tb.last B = us.place.high in let l3 = l.3 in omega arith
 
         early : (from : From) → Live tb v B c (row_of L from) → tb.first B ≤ L → since tb v B ≤ L
-        early atFor l lo = l.2
-        early atEnd l lo =
+        early at_a_for l lo = l.2
+        early at_an_end l lo =
             elim (dec_le (since tb v B) L) [
               | yes k ↦ k
               | no k ↦ let l2 : since tb v B ≤ tb.last L = l.2 in let w = late v B lo (omega arith) (omega arith) in let w4 = w.4 in absurd (omega arith)
             ]
 
         past : (from : From) → c ≢ row_of L from → Live tb v B c (row_of L from) → L < c
-        past atFor n l = let l3 = l.3 in omega arith
-        past atEnd n l = let ff = g.for_first L f in let fl = g.for_last L f in let l3 = l.3 in omega arith
+        past at_a_for n l = let l3 = l.3 in omega arith
+        past at_an_end n l = let ff = g.for_first L f in let fl = g.for_last L f in let l3 = l.3 in omega arith
 
     leads_across : (to : To) (v B c : ℕ) → Used tb v B c → Stays to v B → Live tb v B c (row_to L to) → Across v B c
     leads_across to v B c us n l =
@@ -379,8 +379,8 @@ module _ (tb : Table) where
     gone at to v B c us e w l = go at (leads_across to v B c us w l).3 e
       where
         go : (at : From) → tb.last L < c → c ≡ row_of L at → ⊥
-        go atFor k e = let ff = g.for_first L f in let fl = g.for_last L f in omega arith
-        go atEnd k e = omega arith
+        go at_a_for k e = let ff = g.for_first L f in let fl = g.for_last L f in omega arith
+        go at_an_end k e = omega arith
 
     -- ---- uses of what is fresh where the step leads
 
@@ -396,7 +396,7 @@ module _ (tb : Table) where
     exit_live v B d us e z =
         let nb : since tb v B ≤ d = us.named_before in
         let i = subst (λ (z : ℕ). Inner tb z L) (sym e) (g.for_reads L f) in
-        let w = wide B L us.body (λ z. reads_not tb g L f (sym e ∙ z)) (begins_edge atFor) (i.low, i.high) in
+        let w = wide B L us.body (λ z. reads_not tb g L f (sym e ∙ z)) (begins_edge at_a_for) (i.low, i.high) in
         let w0 = w.0 in
         let w1 = w.1 in
         let fl = g.for_last L f in

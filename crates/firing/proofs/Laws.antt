@@ -9,7 +9,7 @@ use Rattle.step.specs.declared.Act.{Act}
 use Rattle.step.specs.declared.Record.{Record}
 use Rattle.state.specs.State.{token, Stores, stored, emptied, filled, kept, stored_append}
 use Rattle.word.specs.Words.{word_limit}
-use Rattle.step.specs.Kinds.{kind_of, inputs as kindInputs, outputs as kindOutputs}
+use Rattle.step.specs.Kinds.{kind_of, inputs as kind_inputs, outputs as kind_outputs}
 use Rattle.graph.specs.Graph.{row_place, column}
 use Rattle.firing.specs.Acted.{act_stores, Reads}
 use lib.ListN.{get_or}
@@ -38,7 +38,7 @@ acted_is a left w0 w1 w2 first W i s s1 s2 s3 s4 s5 s6 e1 e2 e3 e4 e5 e6 =
     (filled (some first) (token_of a.gives0)) (filled (some (first + 1)) (token_of a.gives1)) (kept W i left) s s1 s2 s3 s4 s5 s6 e1 e2 e3 e4 e5 e6
 
 pub row_reads : (g : List ℕ) (i at : ℕ) {inputs outputs w0 w1 w2 f : ℕ} → at ≡ row_place g i
-    → inputs ≡ column kindInputs (kind_of (get_or g at 0)) → outputs ≡ column kindOutputs (kind_of (get_or g at 0))
+    → inputs ≡ column kind_inputs (kind_of (get_or g at 0)) → outputs ≡ column kind_outputs (kind_of (get_or g at 0))
     → (w0 ≡ get_or g (at + 3) 0) × (w0 < word_limit) → (w1 ≡ get_or g (at + 4) 0) × (w1 < word_limit) → (w2 ≡ get_or g (at + 5) 0) × (w2 < word_limit)
     → (f ≡ get_or g (at + 6) 0) × (f < word_limit)
     → Reads g i (record {

@@ -22,7 +22,7 @@ use Rattle.step.specs.Kinds.{out0, out1}
 use Rattle.table.specs.Rows.{kind_at, size}
 use Rattle.structure.specs.Structure.{Structure}
 use Rattle.lowered.specs.Gathered.{gathered, those, each}
-use Rattle.lowered.specs.Roles.{Role, op_node, stream, gate, guard, copySplit, copyInvariant, carry, argSplit, Wire, start, output, same_wire}
+use Rattle.lowered.specs.Roles.{Role, op_node, stream, gate, guard, copy_split, copy_invariant, carry, arg_split, Wire, start, output, same_wire}
 use Rattle.lowered.specs.Sources.{carried, is_op}
 use Rattle.lowered.specs.Lower.{carried_into, copy, row_roles, roles, is_start, start_rows, starts, role_outputs, wires, wire_number, start_total}
 use Rattle.laid.specs.Lists.{below_or_last, elem_left, elem_right, none_some, position_is}
@@ -114,7 +114,7 @@ module _ (t : List ℕ) where
 
   -- the wires of a loop's copies, three for each value
   abbrev copy_outputs : ℕ → ℕ → List Wire
-  copy_outputs L v = output (copySplit L v) out0 ∷ output (copySplit L v) out1 ∷ output (copyInvariant L v) out0 ∷ []
+  copy_outputs L v = output (copy_split L v) out0 ∷ output (copy_split L v) out1 ∷ output (copy_invariant L v) out0 ∷ []
 
   copies_outputs : (L : ℕ) (vs : List ℕ) → each (role_outputs t) (each (copy L) vs) ≡ each (copy_outputs L) vs
   unfolding each
@@ -131,7 +131,7 @@ module _ (t : List ℕ) where
   unfolding each
   for_outputs L k = ap (each (role_outputs t)) (for_roles t L k) ∙ ap (λ (ws : List Wire). output (stream L) out0 ∷ output (stream L) out1 ∷ output (gate L) out0 ∷ output (gate L) out1 ∷ output (guard L) out0 ∷ ws) (copies_outputs L (carried_into t L))
 
-  pub arg_outputs : (a : ℕ) → kind_at t a ≡ 5 → each (role_outputs t) (row_roles t a) ≡ output (carry a) out0 ∷ output (argSplit a) out0 ∷ output (argSplit a) out1 ∷ []
+  pub arg_outputs : (a : ℕ) → kind_at t a ≡ 5 → each (role_outputs t) (row_roles t a) ≡ output (carry a) out0 ∷ output (arg_split a) out0 ∷ output (arg_split a) out1 ∷ []
   unfolding each
   arg_outputs a k = ap (each (role_outputs t)) (arg_roles_lem t a k)
 
@@ -207,8 +207,8 @@ module _ (t : List ℕ) where
   pub carry_number : (a : ℕ) → a < size t → kind_at t a ≡ 5 → wire_number t (output (carry a) out0) ≡ wire_base t a + 0
   carry_number a l k = in_outputs a 0 (output (carry a) out0) _ l (arg_outputs a k) refl
 
-  pub arg_number : (a : ℕ) → a < size t → kind_at t a ≡ 5 → (wire_number t (output (argSplit a) out0) ≡ wire_base t a + 1) × (wire_number t (output (argSplit a) out1) ≡ wire_base t a + 2)
-  arg_number a l k = (in_outputs a 1 (output (argSplit a) out0) _ l (arg_outputs a k) refl, in_outputs a 2 (output (argSplit a) out1) _ l (arg_outputs a k) refl)
+  pub arg_number : (a : ℕ) → a < size t → kind_at t a ≡ 5 → (wire_number t (output (arg_split a) out0) ≡ wire_base t a + 1) × (wire_number t (output (arg_split a) out1) ≡ wire_base t a + 2)
+  arg_number a l k = (in_outputs a 1 (output (arg_split a) out0) _ l (arg_outputs a k) refl, in_outputs a 2 (output (arg_split a) out1) _ l (arg_outputs a k) refl)
 
   copy_at : (L v j : ℕ) (w : Wire) → v < size t → carried t L v ≡ true → get_elem? (copy_outputs L v) j ≡ some w → get_elem? (each (copy_outputs L) (carried_into t L)) (3 * copy_place t L v + j) ≡ some w
   unfolding carried_into copy_place

@@ -16,7 +16,7 @@ use Rattle.step.specs.Kinds.{outputs, Output, out0, out1}
 use Rattle.graph.specs.Graph.{output_place}
 use Rattle.table.specs.Rows.{kind_at, size}
 use Rattle.lowered.specs.Gathered.{those, each}
-use Rattle.lowered.specs.Roles.{Role, op_node, stream, gate, guard, copySplit, copyInvariant, carry, argSplit, Wire, start, output}
+use Rattle.lowered.specs.Roles.{Role, op_node, stream, gate, guard, copy_split, copy_invariant, carry, arg_split, Wire, start, output}
 use Rattle.lowered.specs.Sources.{carried, is_op, is_for, is_arg_row, has}
 use Rattle.lowered.specs.Lower.{carried_into, copy, row_roles, roles, role_kind, is_start, start_rows, starts, outputs_by, role_outputs, wires}
 use Rattle.laid.specs.Lists.{Among, Once, among_left, among_right, among_split, once_append, gathered_from, gathered_has, gathered_once, each_from, each_has, each_once, those_from, those_has, those_once}
@@ -27,20 +27,20 @@ role_row (op_node r) = r
 role_row (stream L) = L
 role_row (gate L) = L
 role_row (guard L) = L
-role_row (copySplit L v) = L
-role_row (copyInvariant L v) = L
+role_row (copy_split L v) = L
+role_row (copy_invariant L v) = L
 role_row (carry a) = a
-role_row (argSplit a) = a
+role_row (arg_split a) = a
 
 abbrev pub role_value : Role → ℕ
 role_value (op_node r) = r
 role_value (stream L) = L
 role_value (gate L) = L
 role_value (guard L) = L
-role_value (copySplit L v) = v
-role_value (copyInvariant L v) = v
+role_value (copy_split L v) = v
+role_value (copy_invariant L v) = v
 role_value (carry a) = a
-role_value (argSplit a) = a
+role_value (arg_split a) = a
 
 -- tells roles of different names apart
 abbrev tag : Role → ℕ
@@ -48,10 +48,10 @@ tag (op_node r) = 0
 tag (stream L) = 1
 tag (gate L) = 2
 tag (guard L) = 3
-tag (copySplit L v) = 4
-tag (copyInvariant L v) = 5
+tag (copy_split L v) = 4
+tag (copy_invariant L v) = 5
 tag (carry a) = 6
-tag (argSplit a) = 7
+tag (arg_split a) = 7
 
 pub and_true : (a b : Bool) → a ≡ true → b ≡ true → a && b ≡ true
 and_true true b p q = q
@@ -72,14 +72,14 @@ module _ (t : List ℕ) where
 
   -- ---- one row
   copies_from : (L : ℕ) (n : Role) → Among n (each (copy L) (carried_into t L))
-      → (v : ℕ) × (v < size t) × (carried t L v ≡ true) × ((n ≡ copySplit L v) ⊎ (n ≡ copyInvariant L v))
+      → (v : ℕ) × (v < size t) × (carried t L v ≡ true) × ((n ≡ copy_split L v) ⊎ (n ≡ copy_invariant L v))
   unfolding carried_into
   copies_from L n h =
       let r = each_from (copy L) (those (carried t L) (size t)) n h in
       let q = those_from (carried t L) (size t) r.0 r.1 in
       (r.0, q.0, q.1, which r.2)
     where
-      which : {v : ℕ} → Among n (copy L v) → (n ≡ copySplit L v) ⊎ (n ≡ copyInvariant L v)
+      which : {v : ℕ} → Among n (copy L v) → (n ≡ copy_split L v) ⊎ (n ≡ copy_invariant L v)
       which (inl e) = inl e
       which (inr (inl e)) = inr e
       which (inr (inr e)) = absurd e
@@ -96,7 +96,7 @@ module _ (t : List ℕ) where
   row_from_lem r n h = go (is_op t r) (is_for t r) (is_arg_row t r) refl refl refl h
     where
       go : (a b c : Bool) → is_op t r ≡ a → is_for t r ≡ b → is_arg_row t r ≡ c
-          → Among n (cond a (op_node r ∷ []) (cond b (stream r ∷ gate r ∷ guard r ∷ each (copy r) (carried_into t r)) (cond c (carry r ∷ argSplit r ∷ []) []))) → OfRow r n
+          → Among n (cond a (op_node r ∷ []) (cond b (stream r ∷ gate r ∷ guard r ∷ each (copy r) (carried_into t r)) (cond c (carry r ∷ arg_split r ∷ []) []))) → OfRow r n
       go true b c p q s (inl e) = is_row r n (op_node r) e (refl, p, inl refl)
       go true b c p q s (inr e) = absurd e
       go false true c p q s (inl e) = is_row r n (stream r) e (refl, q, inl refl)
@@ -105,11 +105,11 @@ module _ (t : List ℕ) where
       go false true c p q s (inr (inr (inr e))) =
           let k = copies_from r n e in
           elim k.3 [
-            | inl d ↦ is_row r n (copySplit r k.0) d (refl, and_true (is_for t r) (carried t r k.0) q k.2, inr k.1)
-            | inr d ↦ is_row r n (copyInvariant r k.0) d (refl, and_true (is_for t r) (carried t r k.0) q k.2, inr k.1)
+            | inl d ↦ is_row r n (copy_split r k.0) d (refl, and_true (is_for t r) (carried t r k.0) q k.2, inr k.1)
+            | inr d ↦ is_row r n (copy_invariant r k.0) d (refl, and_true (is_for t r) (carried t r k.0) q k.2, inr k.1)
           ]
       go false false true p q s (inl e) = is_row r n (carry r) e (refl, s, inl refl)
-      go false false true p q s (inr (inl e)) = is_row r n (argSplit r) e (refl, s, inl refl)
+      go false false true p q s (inr (inl e)) = is_row r n (arg_split r) e (refl, s, inl refl)
       go false false true p q s (inr (inr e)) = absurd e
       go false false false p q s e = absurd e
 
@@ -118,7 +118,7 @@ module _ (t : List ℕ) where
   copies_once L =
       each_once (copy L) apart (λ v. ((λ h. two v h), ((λ h. h), tt))) (those (carried t L) (size t)) (those_once (carried t L) (size t))
     where
-      two : (v : ℕ) → Among (copySplit L v) (copyInvariant L v ∷ []) → ⊥
+      two : (v : ℕ) → Among (copy_split L v) (copy_invariant L v ∷ []) → ⊥
       two v (inl e) = let z : ◌≡◌ {A = ℕ} 4 5 = ap tag e in omega arith
       two v (inr e) = e
 
@@ -149,11 +149,11 @@ module _ (t : List ℕ) where
       second (inl e) = let z : ◌≡◌ {A = ℕ} 2 3 = ap tag e in omega arith
       second (inr e) = late (gate r) (omega arith) e
 
-      pair : Among (carry r) (argSplit r ∷ []) → ⊥
+      pair : Among (carry r) (arg_split r ∷ []) → ⊥
       pair (inl e) = let z : ◌≡◌ {A = ℕ} 6 7 = ap tag e in omega arith
       pair (inr e) = e
 
-      go : (a b c : Bool) → Once (cond a (op_node r ∷ []) (cond b (stream r ∷ gate r ∷ guard r ∷ each (copy r) (carried_into t r)) (cond c (carry r ∷ argSplit r ∷ []) [])))
+      go : (a b c : Bool) → Once (cond a (op_node r ∷ []) (cond b (stream r ∷ gate r ∷ guard r ∷ each (copy r) (carried_into t r)) (cond c (carry r ∷ arg_split r ∷ []) [])))
       go true b c = ((λ h. h), tt)
       go false true c = (first, (second, (late (guard r) (omega arith), copies_once r)))
       go false false true = (pair, ((λ h. h), tt))
@@ -181,7 +181,7 @@ module _ (t : List ℕ) where
   unfolding row_roles
   for_roles r k = rw k
 
-  pub arg_roles_lem : (r : ℕ) → kind_at t r ≡ 5 → row_roles t r ≡ carry r ∷ argSplit r ∷ []
+  pub arg_roles_lem : (r : ℕ) → kind_at t r ≡ 5 → row_roles t r ≡ carry r ∷ arg_split r ∷ []
   unfolding row_roles
   arg_roles_lem r k = rw k
 
@@ -210,10 +210,10 @@ module _ (t : List ℕ) where
   role_in_row (stream L) l = in_row L (stream L) _ (for_roles L (is_for_lem L l.there)) (inl refl)
   role_in_row (gate L) l = in_row L (gate L) _ (for_roles L (is_for_lem L l.there)) (inr (inl refl))
   role_in_row (guard L) l = in_row L (guard L) _ (for_roles L (is_for_lem L l.there)) (inr (inr (inl refl)))
-  role_in_row (copySplit L v) l = copy_in_row L v (copySplit L v) l.there l.value (inl refl)
-  role_in_row (copyInvariant L v) l = copy_in_row L v (copyInvariant L v) l.there l.value (inr (inl refl))
+  role_in_row (copy_split L v) l = copy_in_row L v (copy_split L v) l.there l.value (inl refl)
+  role_in_row (copy_invariant L v) l = copy_in_row L v (copy_invariant L v) l.there l.value (inr (inl refl))
   role_in_row (carry a) l = in_row a (carry a) _ (arg_roles_lem a (is_arg_lem a l.there)) (inl refl)
-  role_in_row (argSplit a) l = in_row a (argSplit a) _ (arg_roles_lem a (is_arg_lem a l.there)) (inr (inl refl))
+  role_in_row (arg_split a) l = in_row a (arg_split a) _ (arg_roles_lem a (is_arg_lem a l.there)) (inr (inl refl))
 
   pub real_role_is_listed : (n : Role) → Real n → Among n (roles t)
   unfolding roles

@@ -20,7 +20,7 @@ use Rattle.table.specs.Rows.{kind_at, word, size, operand_count, first_operand, 
 use Rattle.table.specs.Scan.{body_of, home}
 use Rattle.table.specs.Bodies.{arg_of, next_of}
 use Rattle.structure.specs.Structure.{Structure, in_table}
-use Rattle.lowered.specs.Roles.{Role, op_node, stream, gate, guard, copySplit, copyInvariant, carry, argSplit, Wire, start, output, Use, into, result}
+use Rattle.lowered.specs.Roles.{Role, op_node, stream, gate, guard, copy_split, copy_invariant, carry, arg_split, Wire, start, output, Use, into, result}
 use Rattle.lowered.specs.Sources.{carried, home_wire, value_wire, Feed, value, inner, nothing, named, is_op, is_for, is_arg_row, has, role_feed, feed, wire_of, source}
 use Rattle.lowered.specs.Lower.{role_kind, role_sort, wire_sort, is_out, uses}
 use Rattle.laid.specs.Lists.{Among}
@@ -72,18 +72,18 @@ module _ (t : List ℕ) where
   takes_where_it_has_a_place (guard L) in0 h = refl
   takes_where_it_has_a_place (guard L) in1 h = refl
   takes_where_it_has_a_place (guard L) in2 h = refl
-  takes_where_it_has_a_place (copySplit L v) in0 h = refl
-  takes_where_it_has_a_place (copySplit L v) in1 h = refl
-  takes_where_it_has_a_place (copySplit L v) in2 h = refl
-  takes_where_it_has_a_place (copyInvariant L v) in0 h = refl
-  takes_where_it_has_a_place (copyInvariant L v) in1 h = refl
-  takes_where_it_has_a_place (copyInvariant L v) in2 h = refl
+  takes_where_it_has_a_place (copy_split L v) in0 h = refl
+  takes_where_it_has_a_place (copy_split L v) in1 h = refl
+  takes_where_it_has_a_place (copy_split L v) in2 h = refl
+  takes_where_it_has_a_place (copy_invariant L v) in0 h = refl
+  takes_where_it_has_a_place (copy_invariant L v) in1 h = refl
+  takes_where_it_has_a_place (copy_invariant L v) in2 h = refl
   takes_where_it_has_a_place (carry a) in0 h = refl
   takes_where_it_has_a_place (carry a) in1 h = refl
   takes_where_it_has_a_place (carry a) in2 h = refl
-  takes_where_it_has_a_place (argSplit a) in0 h = refl
-  takes_where_it_has_a_place (argSplit a) in1 h = refl
-  takes_where_it_has_a_place (argSplit a) in2 h = refl
+  takes_where_it_has_a_place (arg_split a) in0 h = refl
+  takes_where_it_has_a_place (arg_split a) in1 h = refl
+  takes_where_it_has_a_place (arg_split a) in2 h = refl
 
   pub node_feed : (n : Role) (k : Input) → has t n ≡ true → source t (into n k) ≡ wire_of t (role_feed t n k)
   unfolding source feed
@@ -112,11 +112,11 @@ module _ (t : List ℕ) where
   unfolding home_wire
   home_of_for v k = rw k
 
-  pub home_of_arg : (v : ℕ) → kind_at t v ≡ 5 → home_wire t v ≡ output (argSplit v) out0
+  pub home_of_arg : (v : ℕ) → kind_at t v ≡ 5 → home_wire t v ≡ output (arg_split v) out0
   unfolding home_wire
   home_of_arg v k = rw k
 
-  pub home_of_next : (v : ℕ) → kind_at t v ≡ 6 → home_wire t v ≡ output (argSplit (arg_of t v)) out1
+  pub home_of_next : (v : ℕ) → kind_at t v ≡ 6 → home_wire t v ≡ output (arg_split (arg_of t v)) out1
   unfolding home_wire
   home_of_next v k = rw k
 
@@ -185,11 +185,11 @@ module _ (t : List ℕ) (S : Structure t) where
       go (suc (suc zero)) e h = of_op (inl e)
       go (suc (suc (suc zero))) e h = of_op (inr e)
       go (suc (suc (suc (suc zero)))) e h = subst (Made t) (sym (home_of_for t v e)) (real_row (gate v) v less refl refl (eq-eqb (kind_at t v) 4 e), omega arith)
-      go (suc (suc (suc (suc (suc zero))))) e h = subst (Made t) (sym (home_of_arg t v e)) (real_row (argSplit v) v less refl refl (eq-eqb (kind_at t v) 5 e), omega arith)
+      go (suc (suc (suc (suc (suc zero))))) e h = subst (Made t) (sym (home_of_arg t v e)) (real_row (arg_split v) v less refl refl (eq-eqb (kind_at t v) 5 e), omega arith)
       go (suc (suc (suc (suc (suc (suc zero)))))) e h =
           let a = (S.next_row v less e).arg_kind in
           let l = in_table t S (arg_of t v) (λ z. omega arith) in
-          subst (Made t) (sym (home_of_next t v e)) (real_row (argSplit (arg_of t v)) (arg_of t v) l refl refl (eq-eqb (kind_at t (arg_of t v)) 5 a), omega arith)
+          subst (Made t) (sym (home_of_next t v e)) (real_row (arg_split (arg_of t v)) (arg_of t v) l refl refl (eq-eqb (kind_at t (arg_of t v)) 5 a), omega arith)
       go (suc (suc (suc (suc (suc (suc (suc k))))))) e h = absurd (omega arith)
 
   value_made : (v B : ℕ) → v < size t → kind_at t v ≤ 6 → Reached t S v B → Made t (value_wire t v B)
@@ -197,7 +197,7 @@ module _ (t : List ℕ) (S : Structure t) where
   value_made v B less l (inl e) = rw (eq-eqb (home t v) B e) (home_made v less l)
   value_made v B less l (inr c) = go (eqb (home t v) B)
     where
-      go : (b : Bool) → Made t (cond b (home_wire t v) (output (copyInvariant B v) out0))
+      go : (b : Bool) → Made t (cond b (home_wire t v) (output (copy_invariant B v) out0))
       go true = home_made v less l
       go false =
           (record { row = in_table t S B (λ z. omega (arith, c.1)); value = less; there = and_true (is_for t B) (carried t B v) (eq-eqb (kind_at t B) 4 c.1) c.0 }, omega arith)
@@ -206,7 +206,7 @@ module _ (t : List ℕ) (S : Structure t) where
   unfolding value_wire
   value_sort v B l = go (eqb (home t v) B)
     where
-      go : (b : Bool) → wire_sort t (cond b (home_wire t v) (output (copyInvariant B v) out0)) ≡ sort_of t v
+      go : (b : Bool) → wire_sort t (cond b (home_wire t v) (output (copy_invariant B v) out0)) ≡ sort_of t v
       go true = home_sort t v l
       go false = refl
 
@@ -321,20 +321,20 @@ module _ (t : List ℕ) (S : Structure t) where
   node_input_is_fine (guard L) in0 l = for_fine L 0 l.row (eqb-true (kind_at t L) 4 l.there) (omega arith)
   node_input_is_fine (guard L) in1 l = for_fine L 2 l.row (eqb-true (kind_at t L) 4 l.there) (omega arith)
   node_input_is_fine (guard L) in2 l = tt
-  node_input_is_fine (copySplit L v) in0 l = (guard_made L l.row (copy_for L v l.there).0, condition_sort (word t L 5))
-  node_input_is_fine (copySplit L v) in1 l = let c = copy_for L v l.there in (l.value, carried_value L v c.1, copy_is_reached t S L v l.row c.0 c.1, refl)
-  node_input_is_fine (copySplit L v) in2 l = tt
-  node_input_is_fine (copyInvariant L v) in0 l = (gate_made L out1 l.row (copy_for L v l.there).0, refl)
-  node_input_is_fine (copyInvariant L v) in1 l = ((record { row = l.row; value = l.value; there = l.there }, omega arith), refl)
-  node_input_is_fine (copyInvariant L v) in2 l = tt
+  node_input_is_fine (copy_split L v) in0 l = (guard_made L l.row (copy_for L v l.there).0, condition_sort (word t L 5))
+  node_input_is_fine (copy_split L v) in1 l = let c = copy_for L v l.there in (l.value, carried_value L v c.1, copy_is_reached t S L v l.row c.0 c.1, refl)
+  node_input_is_fine (copy_split L v) in2 l = tt
+  node_input_is_fine (copy_invariant L v) in0 l = (gate_made L out1 l.row (copy_for L v l.there).0, refl)
+  node_input_is_fine (copy_invariant L v) in1 l = ((record { row = l.row; value = l.value; there = l.there }, omega arith), refl)
+  node_input_is_fine (copy_invariant L v) in2 l = tt
   node_input_is_fine (carry a) in0 l = let q = arg_loop a l.row l.there in (stream_made (body_of t a) out1 q.0 q.1, refl)
   node_input_is_fine (carry a) in1 l = one_fine a 5 l.row (eqb-true (kind_at t a) 5 l.there) (inl refl) (λ z. omega arith)
   node_input_is_fine (carry a) in2 l =
       let x = (S.arg_row a l.row (eqb-true (kind_at t a) 5 l.there)).next_kind in
       one_fine (next_of t a) 6 (in_table t S (next_of t a) (λ z. omega arith)) x (inr (inl refl)) (λ z. omega arith)
-  node_input_is_fine (argSplit a) in0 l = let q = arg_loop a l.row l.there in (stream_made (body_of t a) out1 q.0 q.1, refl)
-  node_input_is_fine (argSplit a) in1 l = ((record { row = l.row; value = l.value; there = l.there }, omega arith), refl)
-  node_input_is_fine (argSplit a) in2 l = tt
+  node_input_is_fine (arg_split a) in0 l = let q = arg_loop a l.row l.there in (stream_made (body_of t a) out1 q.0 q.1, refl)
+  node_input_is_fine (arg_split a) in1 l = ((record { row = l.row; value = l.value; there = l.there }, omega arith), refl)
+  node_input_is_fine (arg_split a) in2 l = tt
 
   pub result_is_fine : (q : ℕ) → q < size t → is_out t q ≡ true → Fine (named t q 0) 0
   result_is_fine q l e = one_fine q 8 l (eqb-true (kind_at t q) 8 e) (inr (inr refl)) (λ z. omega arith)

@@ -21,7 +21,7 @@ use Rattle.graph.specs.Graph.{absent, Node, has_input, wire_on, output_count, so
 use Rattle.table.specs.Rows.{kind_at, word, sort_of}
 use Rattle.structure.specs.Structure.{Structure}
 use Rattle.lowered.specs.Gathered.{each}
-use Rattle.lowered.specs.Roles.{Role, op_node, stream, gate, guard, copySplit, copyInvariant, carry, argSplit, Wire, start, output, Use, into}
+use Rattle.lowered.specs.Roles.{Role, op_node, stream, gate, guard, copy_split, copy_invariant, carry, arg_split, Wire, start, output, Use, into}
 use Rattle.lowered.specs.Lower.{roles, role_kind, role_code, role_sort, starts, outputs_by, role_outputs, wires, wire_sort, users, drain_node, fork_node, fork_rows, fork_wires, free_at, all_fork_wires, users_each, plain_wires, all_users, stands_by, stands_on, role_node, nodes_from, forks_from, lowered_nodes, wire_total, lowered_words}
 use Rattle.laid.specs.Lists.{Among, in_range, none_some}
 use Rattle.laid.specs.Indexed.{total_first, sum_of, sum_append}
@@ -97,10 +97,10 @@ role_sort_small t (op_node r) = omega arith
 role_sort_small t (stream L) = omega arith
 role_sort_small t (gate L) = omega arith
 role_sort_small t (guard L) = omega arith
-role_sort_small t (copySplit L v) = flag_or_word t v
-role_sort_small t (copyInvariant L v) = flag_or_word t v
+role_sort_small t (copy_split L v) = flag_or_word t v
+role_sort_small t (copy_invariant L v) = flag_or_word t v
 role_sort_small t (carry a) = omega arith
-role_sort_small t (argSplit a) = omega arith
+role_sort_small t (arg_split a) = omega arith
 
 wire_sort_small : (t : List ℕ) (w : Wire) → wire_sort t w < 2
 wire_sort_small t (start v) = omega arith
@@ -125,30 +125,30 @@ module _ (t : List ℕ) (S : Structure t) where
   code_right_lem (stream L) l = let c = S.loop_codes L l.row (eqb-true (kind_at t L) 4 l.there) in let u = c.0 in let d = c.1 in omega arith
   code_right_lem (gate L) l = omega arith
   code_right_lem (guard L) l = let c = S.loop_codes L l.row (eqb-true (kind_at t L) 4 l.there) in let d = c.1 in omega arith
-  code_right_lem (copySplit L v) l = omega arith
-  code_right_lem (copyInvariant L v) l = omega arith
+  code_right_lem (copy_split L v) l = omega arith
+  code_right_lem (copy_invariant L v) l = omega arith
   code_right_lem (carry a) l = omega arith
-  code_right_lem (argSplit a) l = omega arith
+  code_right_lem (arg_split a) l = omega arith
 
   sort_right : (n : Role) → Real t n → role_sort t n < own_sorts (role_kind t n)
   sort_right (op_node r) l = elim (op_kind t r l.there) [ inl e ↦ rw e (omega arith) | inr e ↦ rw e (omega arith) ]
   sort_right (stream L) l = omega arith
   sort_right (gate L) l = omega arith
   sort_right (guard L) l = omega arith
-  sort_right (copySplit L v) l = flag_or_word t v
-  sort_right (copyInvariant L v) l = flag_or_word t v
+  sort_right (copy_split L v) l = flag_or_word t v
+  sort_right (copy_invariant L v) l = flag_or_word t v
   sort_right (carry a) l = omega arith
-  sort_right (argSplit a) l = omega arith
+  sort_right (arg_split a) l = omega arith
 
   some_output : (n : Role) → Real t n → outputs (role_kind t n) ≡ 0 → ⊥
   some_output (op_node r) l = elim (op_kind t r l.there) [ inl e ↦ rw e (λ z. omega arith) | inr e ↦ rw e (λ z. omega arith) ]
   some_output (stream L) l = λ z. omega arith
   some_output (gate L) l = λ z. omega arith
   some_output (guard L) l = λ z. omega arith
-  some_output (copySplit L v) l = λ z. omega arith
-  some_output (copyInvariant L v) l = λ z. omega arith
+  some_output (copy_split L v) l = λ z. omega arith
+  some_output (copy_invariant L v) l = λ z. omega arith
   some_output (carry a) l = λ z. omega arith
-  some_output (argSplit a) l = λ z. omega arith
+  some_output (arg_split a) l = λ z. omega arith
 
   roles_right : (ns : List Role) (f : ℕ) → ((n : Role) → Among n ns → Real t n) → AllRight f (nodes_from t f ns)
   roles_right [] f h = tt

@@ -18,7 +18,7 @@ use Rattle.table.specs.Scan.{body_of, reads}
 use Rattle.table.specs.Bodies.{operand, next_of}
 use Rattle.structure.specs.Structure.{Structure}
 use Rattle.lowered.specs.Gathered.{gathered, each}
-use Rattle.lowered.specs.Roles.{Role, op_node, stream, gate, guard, copySplit, copyInvariant, carry, argSplit, Wire, output, Use, into, result}
+use Rattle.lowered.specs.Roles.{Role, op_node, stream, gate, guard, copy_split, copy_invariant, carry, arg_split, Wire, output, Use, into, result}
 use Rattle.lowered.specs.Sources.{carried, Feed, value, inner, nothing, named, is_op, is_for, is_arg_row, wire_of, source, role_feed}
 use Rattle.lowered.specs.Lower.{carried_into, copy, row_roles, roles, wire_number, taken, use_if, role_uses, is_out, out_rows, uses}
 use Rattle.laid.specs.Lists.{Among, gathered_has, those_from}
@@ -131,9 +131,9 @@ module _ (t : List ℕ) (S : Structure t) where
       let raw : wire_number t (output (stream (body_of t a)) out1) ≡ wire_base t (body_of t a) + 1 = (stream_number t (body_of t a) (omega arith) r.loop_for).1 in
       let own : wire_number t (output (carry a) out0) ≡ wire_base t a + 0 = carry_number t a l k in
       ap row_numbers (arg_roles_lem t a k)
-      ∙ one_role (carry a) (argSplit a ∷ []) ((wire_base t (body_of t a) + 1) ∷ operand_number t a 0 ∷ operand_number t (next_of t a) 0 ∷ []) (real_in a (carry a) _ l (arg_roles_lem t a k) (inl refl)) (ap (λ (n : ℕ). n ∷ operand_number t a 0 ∷ operand_number t (next_of t a) 0 ∷ []) raw)
+      ∙ one_role (carry a) (arg_split a ∷ []) ((wire_base t (body_of t a) + 1) ∷ operand_number t a 0 ∷ operand_number t (next_of t a) 0 ∷ []) (real_in a (carry a) _ l (arg_roles_lem t a k) (inl refl)) (ap (λ (n : ℕ). n ∷ operand_number t a 0 ∷ operand_number t (next_of t a) 0 ∷ []) raw)
       ∙ ap (λ (xs : List ℕ). (wire_base t (body_of t a) + 1) ∷ operand_number t a 0 ∷ operand_number t (next_of t a) 0 ∷ xs)
-      (one_role (argSplit a) [] ((wire_base t (body_of t a) + 1) ∷ (wire_base t a + 0) ∷ []) (real_in a (argSplit a) _ l (arg_roles_lem t a k) (inr (inl refl))) (ap₂ {C = List ℕ} (λ (n m : ℕ). n ∷ m ∷ []) raw own))
+      (one_role (arg_split a) [] ((wire_base t (body_of t a) + 1) ∷ (wire_base t a + 0) ∷ []) (real_in a (arg_split a) _ l (arg_roles_lem t a k) (inr (inl refl))) (ap₂ {C = List ℕ} (λ (n m : ℕ). n ∷ m ∷ []) raw own))
 
   copies_numbers : (L : ℕ) → L < size t → kind_at t L ≡ 4 → (vs : List ℕ) → ((v : ℕ) → Among v vs → (v < size t) × (carried t L v ≡ true)) → ((n : Role) → Among n (each (copy L) vs) → Real t n)
       → row_numbers (each (copy L) vs) ≡ each (copy_sources t L) vs
@@ -143,10 +143,10 @@ module _ (t : List ℕ) (S : Structure t) where
       let q = c v (inl refl) in
       let g : wire_number t (output (guard L) out0) ≡ wire_base t L + 4 = guard_number t L l k in
       let d : wire_number t (output (gate L) out1) ≡ wire_base t L + 3 = (gate_number t L l k).1 in
-      let s : wire_number t (output (copySplit L v) out0) ≡ wire_base t L + (5 + (3 * copy_place t L v + 0)) = copy_number t L v 0 (output (copySplit L v) out0) l k q.0 q.1 refl in
-      one_role (copySplit L v) (copyInvariant L v ∷ each (copy L) vs) ((wire_base t L + 4) ∷ value_number t v (reads t L) ∷ []) (h (copySplit L v) (inl refl)) (ap (λ (n : ℕ). n ∷ value_number t v (reads t L) ∷ []) g)
+      let s : wire_number t (output (copy_split L v) out0) ≡ wire_base t L + (5 + (3 * copy_place t L v + 0)) = copy_number t L v 0 (output (copy_split L v) out0) l k q.0 q.1 refl in
+      one_role (copy_split L v) (copy_invariant L v ∷ each (copy L) vs) ((wire_base t L + 4) ∷ value_number t v (reads t L) ∷ []) (h (copy_split L v) (inl refl)) (ap (λ (n : ℕ). n ∷ value_number t v (reads t L) ∷ []) g)
       ∙ ap (λ (xs : List ℕ). (wire_base t L + 4) ∷ value_number t v (reads t L) ∷ xs)
-      (one_role (copyInvariant L v) (each (copy L) vs) ((wire_base t L + 3) ∷ (wire_base t L + (5 + (3 * copy_place t L v + 0))) ∷ []) (h (copyInvariant L v) (inr (inl refl))) (ap₂ {C = List ℕ} (λ (n m : ℕ). n ∷ m ∷ []) d s)
+      (one_role (copy_invariant L v) (each (copy L) vs) ((wire_base t L + 3) ∷ (wire_base t L + (5 + (3 * copy_place t L v + 0))) ∷ []) (h (copy_invariant L v) (inr (inl refl))) (ap₂ {C = List ℕ} (λ (n m : ℕ). n ∷ m ∷ []) d s)
       ∙ ap (λ (xs : List ℕ). (wire_base t L + 3) ∷ (wire_base t L + (5 + (3 * copy_place t L v + 0))) ∷ xs) (copies_numbers L l k vs (λ x m. c x (inr m)) (λ n m. h n (inr (inr m)))))
 
   carried_from : (L v : ℕ) → Among v (carried_into t L) → (v < size t) × (carried t L v ≡ true)

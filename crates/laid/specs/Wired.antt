@@ -18,7 +18,7 @@ use Rattle.table.specs.Rows.{kind_at, size}
 use Rattle.table.specs.Scan.{home}
 use Rattle.table.specs.Bodies.{arg_of}
 use Rattle.structure.specs.Structure.{Structure, in_table}
-use Rattle.lowered.specs.Roles.{copyInvariant, output}
+use Rattle.lowered.specs.Roles.{copy_invariant, output}
 use Rattle.lowered.specs.Sources.{home_wire, value_wire, is_op}
 use Rattle.lowered.specs.Lower.{wire_number}
 use Rattle.laid.specs.Made.{home_of_start, home_of_op, home_of_for, home_of_arg, home_of_next}
@@ -65,7 +65,7 @@ module _ (t : List ℕ) (S : Structure t) where
   value_by_number v B l k r = go (eqb (home t v) B) refl r
     where
       go : (b : Bool) → eqb (home t v) B ≡ b → Reached t S v B
-          → wire_number t (cond b (home_wire t v) (output (copyInvariant B v) out0)) ≡ cond b (home_number t v) (wire_base t B + (5 + (3 * copy_place t B v + 2)))
+          → wire_number t (cond b (home_wire t v) (output (copy_invariant B v) out0)) ≡ cond b (home_number t v) (wire_base t B + (5 + (3 * copy_place t B v + 2)))
       go true e q = home_by_number v l k
       go false e (inl q) = absurd (eqb-false (home t v) B e q)
-      go false e (inr q) = let kB = q.1 in copy_number t B v 2 (output (copyInvariant B v) out0) (in_table t S B (λ z. omega arith)) kB l q.0 refl
+      go false e (inr q) = let kB = q.1 in copy_number t B v 2 (output (copy_invariant B v) out0) (in_table t S B (λ z. omega arith)) kB l q.0 refl

@@ -15,7 +15,7 @@ use Rattle.graph.specs.Graph.{absent}
 use Rattle.table.specs.Rows.{size, sort_of}
 use Rattle.table.specs.Scan.{body_of, reads, home}
 use Rattle.structure.specs.Structure.{Structure}
-use Rattle.lowered.specs.Roles.{copySplit, copyInvariant}
+use Rattle.lowered.specs.Roles.{copy_split, copy_invariant}
 use Rattle.lowered.specs.Sources.{carried}
 use Rattle.lowered.specs.Lower.{carried_into}
 use Rattle.laid.specs.Lists.{in_range}
@@ -129,7 +129,7 @@ module _ (t nodes wires : List ℕ) (R : Room t nodes wires) (v b : ℕ) (T : Ta
         let bw = B.wire b T.loop in
         let q = place_is in
         let f = fits in
-        laid t rows half (i + 3 + 2 * place) (node_base t b + (3 + 2 * copy_place t b v)) (copySplit b v) SPLIT 0 0 sort (sort_of t v) (w + 4) (wire_base t b + 4) outer (value_number t v (reads t b)) absent absent (w + 5 + 3 * place) (wire_base t b + (5 + 3 * copy_place t b v))
+        laid t rows half (i + 3 + 2 * place) (node_base t b + (3 + 2 * copy_place t b v)) (copy_split b v) SPLIT 0 0 sort (sort_of t v) (w + 4) (wire_base t b + 4) outer (value_number t v (reads t b)) absent absent (w + 5 + 3 * place) (wire_base t b + (5 + 3 * copy_place t b v))
         long (omega arith) refl (omega arith) (copy_split_place t b v T.loop T.is_for_lem T.value T.carries) (copy_split_node t S b v T.loop T.is_for_lem T.value T.carries)
         refl es (omega arith) (o ∙ ap (value_number t v) (sym (S.reads_body b (let k = T.is_for_lem in λ z. omega arith)))) refl (omega arith)
 
@@ -139,7 +139,7 @@ module _ (t nodes wires : List ℕ) (R : Room t nodes wires) (v b : ℕ) (T : Ta
         let bw = B.wire b T.loop in
         let q = place_is in
         let f = fits in
-        laid t half new (i + 4 + 2 * place) (node_base t b + (4 + 2 * copy_place t b v)) (copyInvariant b v) INVARIANT 0 0 sort (sort_of t v) (w + 3) (wire_base t b + 3) (w + 5 + 3 * place) (wire_base t b + (5 + 3 * copy_place t b v)) absent absent (w + 7 + 3 * place) (wire_base t b + (7 + 3 * copy_place t b v))
+        laid t half new (i + 4 + 2 * place) (node_base t b + (4 + 2 * copy_place t b v)) (copy_invariant b v) INVARIANT 0 0 sort (sort_of t v) (w + 3) (wire_base t b + 3) (w + 5 + 3 * place) (wire_base t b + (5 + 3 * copy_place t b v)) absent absent (w + 7 + 3 * place) (wire_base t b + (7 + 3 * copy_place t b v))
         l (omega arith) e (omega arith) (copy_invariant_place t b v T.loop T.is_for_lem T.value T.carries) (copy_invariant_node t S b v T.loop T.is_for_lem T.value T.carries)
         refl es (omega arith) (omega arith) refl (omega arith)
 

@@ -15,7 +15,7 @@ use Rattle.table.specs.Scan.{body_of}
 use Rattle.table.specs.Bodies.{next_of}
 use Rattle.structure.specs.Structure.{Structure, right_table_has_structure, in_table}
 use Rattle.lowered.specs.Gathered.{gathered}
-use Rattle.lowered.specs.Roles.{op_node, stream, gate, guard, carry, argSplit}
+use Rattle.lowered.specs.Roles.{op_node, stream, gate, guard, carry, arg_split}
 use Rattle.lowered.specs.Sources.{is_op}
 use Rattle.lowered.specs.Lower.{row_roles, roles, plain_nodes}
 use Rattle.laid.specs.Lists.{below_or_last}
@@ -204,7 +204,7 @@ module _ (t bodies pairs nodes wires at : List ℕ) (K : Known t bodies pairs no
         let q = first in
         let A = laid t rows one i (node_base t r) (carry r) CARRY 0 0 0 0 raw (wire_base t (body_of t r) + 1) a (operand_number t r 0) b (operand_number t (next_of t r) 0) w (wire_base t r)
         long (omega arith) e₁ p (carry_place t r l k) (carry_node t S r l k) refl refl er oa ob q in
-        let C = laid t one new (i + 1) (node_base t r + 1) (argSplit r) SPLIT 0 0 0 0 raw (wire_base t (body_of t r) + 1) w (wire_base t r) absent absent (w + 1) (wire_base t r + 1)
+        let C = laid t one new (i + 1) (node_base t r + 1) (arg_split r) SPLIT 0 0 0 0 raw (wire_base t (body_of t r) + 1) w (wire_base t r) absent absent (w + 1) (wire_base t r + 1)
         A.long (omega arith) e₂ (omega arith) (arg_split_place t r l k) (arg_split_node t S r l k) refl refl er q refl (omega arith) in
         record {
           row = record {

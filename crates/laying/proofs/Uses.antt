@@ -26,7 +26,7 @@ use Rattle.laying.specs.Using.{Counting, UseAt, UseRight, UseResolved, UsingRigh
 
 place_after_lem : (t : List ℕ) (L v : ℕ) → carried t L v ≡ true → copy_place t L (suc v) ≡ suc (copy_place t L v)
 unfolding copy_place
-place_after_lem t L v h = Those.one_more (carried t L) v h
+place_after_lem t L v h = Those.one_more_lem (carried t L) v h
 
 place_same : (t : List ℕ) (L v : ℕ) → carried t L v ≡ false → copy_place t L (suc v) ≡ copy_place t L v
 unfolding copy_place

@@ -33,7 +33,8 @@ use Rattle.state.specs.Legal.{state_length, right_length, legal_token, legal_wir
 use Rattle.state.specs.Load.{start_word, loaded}
 use Rattle.state.specs.Loaded.{loaded_at, loaded_length, loaded_at_lem}
 use Rattle.confluence.specs.Orders.{fires_end, fires_first}
-use Rattle.confluence.specs.Statements.{Fires, run_of, made_by, run_counts_firings}
+use Rattle.confluence.specs.Statements.{Fires, run_of, made_by}
+use Rattle.confluence.proofs.Statements.{run_counts_firings}
 use Rattle.confluence.specs.Update.{wire_at, Touch, takes_it, gives_it, leaves_it, touch, taken_after, given_after, still_after, left_after, own_after}
 use Rattle.confluence.specs.Graphs.{nodes_are_local, accepted_is_wired}
 

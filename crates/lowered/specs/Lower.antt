@@ -13,7 +13,7 @@ use Rattle.graph.specs.Graph.{Node, absent}
 use Rattle.table.specs.Rows
 use Rattle.table.specs.Rows.{kind_at, word, size, sort_of, INPUT, CONST, OUT}
 use Rattle.lowered.specs.Gathered.{gathered, those, each, position}
-use Rattle.lowered.specs.Roles.{Role, op_node, stream, gate, guard, copySplit, copyInvariant, carry, argSplit, Wire, start, output, Use, into, result, same_wire, same_use}
+use Rattle.lowered.specs.Roles.{Role, op_node, stream, gate, guard, copy_split, copy_invariant, carry, arg_split, Wire, start, output, Use, into, result, same_wire, same_use}
 use Rattle.lowered.specs.Sources.{carried, is_op, is_for, is_arg_row, source}
 
 -- ---- nodes
@@ -24,14 +24,14 @@ carried_into t L = those (carried t L) (size t)
 
 -- its SPLIT and its INVARIANT
 abbrev pub copy : ℕ → ℕ → List Role
-copy L v = copySplit L v ∷ copyInvariant L v ∷ []
+copy L v = copy_split L v ∷ copy_invariant L v ∷ []
 
 -- 'each row lays down its nodes in this order'
 unfoldable pub row_roles : List ℕ → ℕ → List Role
 row_roles t r =
     cond (is_op t r) (op_node r ∷ [])
     (cond (is_for t r) (stream r ∷ gate r ∷ guard r ∷ each (copy r) (carried_into t r))
-    (cond (is_arg_row t r) (carry r ∷ argSplit r ∷ []) []))
+    (cond (is_arg_row t r) (carry r ∷ arg_split r ∷ []) []))
 
 -- 'Going down the table, each row lays down its nodes'
 unfoldable pub roles : List ℕ → List Role
@@ -44,30 +44,30 @@ role_kind t (op_node r) = cond (eqb (kind_at t r) Rows.OP) OP PICK
 role_kind t (stream L) = STREAM
 role_kind t (gate L) = GATE
 role_kind t (guard L) = OP
-role_kind t (copySplit L v) = SPLIT
-role_kind t (copyInvariant L v) = INVARIANT
+role_kind t (copy_split L v) = SPLIT
+role_kind t (copy_invariant L v) = INVARIANT
 role_kind t (carry a) = CARRY
-role_kind t (argSplit a) = SPLIT
+role_kind t (arg_split a) = SPLIT
 
 abbrev pub role_code : List ℕ → Role → ℕ
 role_code t (op_node r) = cond (eqb (kind_at t r) Rows.OP) (word t r 1) 0
 role_code t (stream L) = 5 * word t L 4 + word t L 5
 role_code t (gate L) = 0
 role_code t (guard L) = 3 + word t L 5
-role_code t (copySplit L v) = 0
-role_code t (copyInvariant L v) = 0
+role_code t (copy_split L v) = 0
+role_code t (copy_invariant L v) = 0
 role_code t (carry a) = 0
-role_code t (argSplit a) = 0
+role_code t (arg_split a) = 0
 
 abbrev pub role_sort : List ℕ → Role → ℕ
 role_sort t (op_node r) = 0
 role_sort t (stream L) = 0
 role_sort t (gate L) = 0
 role_sort t (guard L) = 0
-role_sort t (copySplit L v) = sort_of t v
-role_sort t (copyInvariant L v) = sort_of t v
+role_sort t (copy_split L v) = sort_of t v
+role_sort t (copy_invariant L v) = sort_of t v
 role_sort t (carry a) = 0
-role_sort t (argSplit a) = 0
+role_sort t (arg_split a) = 0
 
 -- ---- wires
 

@@ -17,13 +17,13 @@ pub data Role : Type 0 where
   -- of a loop
   stream gate guard : ℕ → Role
   -- of a loop and a value carried into it
-  copySplit copyInvariant : ℕ → ℕ → Role
+  copy_split copy_invariant : ℕ → ℕ → Role
   -- of an ARG
-  carry argSplit : ℕ → Role
-  deriving Discrete as discreteRole
+  carry arg_split : ℕ → Role
+  deriving Discrete as discrete_role
 
 unfoldable pub same_role : (a b : Role) → Dec (a ≡ b)
-same_role = discreteRole ℕ_discrete
+same_role = discrete_role ℕ_discrete
 
 -- A wire is the start of an INPUT or CONST row, or an output of a node.
 pub data Wire : Type 0 where

@@ -14,7 +14,7 @@ use Rattle.table.specs.Rows.{kind_at, size, operand_count, CONST, OP, PICK, FOR,
 use Rattle.table.specs.Scan.{stack_at, body_of, reads, home, holds}
 use Rattle.table.specs.Bodies.{operand, arg_of, next_of}
 use Rattle.lowered.specs.Gathered.{some?}
-use Rattle.lowered.specs.Roles.{Role, op_node, stream, gate, guard, copySplit, copyInvariant, carry, argSplit, Wire, start, output, Use, into, result}
+use Rattle.lowered.specs.Roles.{Role, op_node, stream, gate, guard, copy_split, copy_invariant, carry, arg_split, Wire, start, output, Use, into, result}
 
 -- body B is loop L, or lies in it
 unfoldable pub inside : List ℕ → ℕ → ℕ → Bool
@@ -36,11 +36,11 @@ home_wire t v =
     cond (leb (kind_at t v) CONST) (start v)
     (cond (leb (kind_at t v) PICK) (output (op_node v) out0)
     (cond (eqb (kind_at t v) FOR) (output (gate v) out0)
-    (cond (eqb (kind_at t v) ARG) (output (argSplit v) out0) (output (argSplit (arg_of t v)) out1))))
+    (cond (eqb (kind_at t v) ARG) (output (arg_split v) out0) (output (arg_split (arg_of t v)) out1))))
 
 -- 'In any other body its wire is the copy of it that this loop makes'.
 unfoldable pub value_wire : List ℕ → ℕ → ℕ → Wire
-value_wire t v B = cond (eqb (home t v) B) (home_wire t v) (output (copyInvariant B v) out0)
+value_wire t v B = cond (eqb (home t v) B) (home_wire t v) (output (copy_invariant B v) out0)
 
 -- what an input takes: a value in a body, a wire of its own loop, or nothing where there is no such input
 pub data Feed : Type 0 where
@@ -67,10 +67,10 @@ has t (op_node r) = is_op t r
 has t (stream L) = is_for t L
 has t (gate L) = is_for t L
 has t (guard L) = is_for t L
-has t (copySplit L v) = is_for t L && carried t L v
-has t (copyInvariant L v) = is_for t L && carried t L v
+has t (copy_split L v) = is_for t L && carried t L v
+has t (copy_invariant L v) = is_for t L && carried t L v
 has t (carry a) = is_arg_row t a
-has t (argSplit a) = is_arg_row t a
+has t (arg_split a) = is_arg_row t a
 
 -- OP: 'x and y in the row's body'. PICK: 'flag, x and y in the row's body'.
 abbrev pub op_feed : List ℕ → ℕ → Input → Feed
@@ -105,7 +105,7 @@ copy_split_feed t L v in2 = nothing
 -- INVARIANT: 'the gated condition, and the true leg of that SPLIT'
 abbrev pub copy_invariant_feed : ℕ → ℕ → Input → Feed
 copy_invariant_feed L v in0 = inner (output (gate L) out1)
-copy_invariant_feed L v in1 = inner (output (copySplit L v) out0)
+copy_invariant_feed L v in1 = inner (output (copy_split L v) out0)
 copy_invariant_feed L v in2 = nothing
 
 -- CARRY: 'the raw condition, the initial word in the body around, and what its NEXT names in the loop'
@@ -125,10 +125,10 @@ role_feed t (op_node r) k = op_feed t r k
 role_feed t (stream L) k = stream_feed t L k
 role_feed t (gate L) k = gate_feed L k
 role_feed t (guard L) k = guard_feed t L k
-role_feed t (copySplit L v) k = copy_split_feed t L v k
-role_feed t (copyInvariant L v) k = copy_invariant_feed L v k
+role_feed t (copy_split L v) k = copy_split_feed t L v k
+role_feed t (copy_invariant L v) k = copy_invariant_feed L v k
 role_feed t (carry a) k = carry_feed t a k
-role_feed t (argSplit a) k = arg_split_feed t a k
+role_feed t (arg_split a) k = arg_split_feed t a k
 
 -- a node that the table does not have takes nothing; a result is what its OUT row names
 unfoldable pub feed : List ℕ → Use → Feed

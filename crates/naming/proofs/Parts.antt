@@ -21,7 +21,7 @@ use Rattle.table.specs.Rows.{kind_at, size}
 use Rattle.structure.specs.Structure.{Structure}
 use Rattle.lowered.specs.Gathered.{gathered, those, each}
 use Rattle.lowered.specs.Lists.{in_range, has_elem}
-use Rattle.lowered.specs.Roles.{Role, op_node, stream, gate, guard, copySplit, copyInvariant, carry, argSplit, Wire, start, Use}
+use Rattle.lowered.specs.Roles.{Role, op_node, stream, gate, guard, copy_split, copy_invariant, carry, arg_split, Wire, start, Use}
 use Rattle.lowered.specs.Sources.{carried}
 use Rattle.lowered.specs.Lower.{carried_into, copy, row_roles, roles, is_start, start_rows, starts, outputs_by, role_outputs, wires, users, plain_nodes, plain_wires}
 use Rattle.laid.specs.Indexed.{each_append, each_long, each_at, joined_first, joined_along, joined_same}
@@ -79,10 +79,10 @@ module _ (t : List ℕ) where
   outputs_by_name (stream L) = refl
   outputs_by_name (gate L) = refl
   outputs_by_name (guard L) = refl
-  outputs_by_name (copySplit L v) = refl
-  outputs_by_name (copyInvariant L v) = refl
+  outputs_by_name (copy_split L v) = refl
+  outputs_by_name (copy_invariant L v) = refl
   outputs_by_name (carry a) = refl
-  outputs_by_name (argSplit a) = refl
+  outputs_by_name (arg_split a) = refl
 
 -- the forks and legs of a wire, by how many uses it has
 pub forks_used : (k a b c : ℕ) → forks_of (suc k) a b c ≡ times_over k (16 + a) b c

@@ -11,7 +11,7 @@ use Rattle.graph.specs.Below.{joined}
 use Rattle.structure.specs.Structure.{Structure}
 use Rattle.lowered.specs.Gathered.{each}
 use Rattle.lowered.specs.Lists.{has_elem}
-use Rattle.lowered.specs.Roles.{op_node, stream, gate, guard, copySplit, copyInvariant, carry, argSplit, Wire, start, output}
+use Rattle.lowered.specs.Roles.{op_node, stream, gate, guard, copy_split, copy_invariant, carry, arg_split, Wire, start, output}
 use Rattle.lowered.specs.Lower.{roles, starts, role_outputs, wires, users, plain_nodes, plain_wires}
 use Rattle.laid.specs.Indexed.{each_append}
 use Rattle.carrying.specs.Kept.{Passing}
@@ -33,14 +33,14 @@ what_small (output (gate L) out0) = omega arith
 what_small (output (gate L) out1) = omega arith
 what_small (output (guard L) out0) = omega arith
 what_small (output (guard L) out1) = omega arith
-what_small (output (copySplit L v) out0) = omega arith
-what_small (output (copySplit L v) out1) = omega arith
-what_small (output (copyInvariant L v) out0) = omega arith
-what_small (output (copyInvariant L v) out1) = omega arith
+what_small (output (copy_split L v) out0) = omega arith
+what_small (output (copy_split L v) out1) = omega arith
+what_small (output (copy_invariant L v) out0) = omega arith
+what_small (output (copy_invariant L v) out1) = omega arith
 what_small (output (carry a) out0) = omega arith
 what_small (output (carry a) out1) = omega arith
-what_small (output (argSplit a) out0) = omega arith
-what_small (output (argSplit a) out1) = omega arith
+what_small (output (arg_split a) out0) = omega arith
+what_small (output (arg_split a) out1) = omega arith
 
 module _ (t : List ℕ) (n : ℕ) (P : Passing t n) (nodes wires' : List ℕ) (room : length (node_names t) ≤ length nodes) (room' : length (wire_names t) ≤ length wires') where
   rows_are : joined (row_names t) n ≡ each role_name (roles t)

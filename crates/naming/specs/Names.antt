@@ -9,7 +9,7 @@
 use Rattle.std.specs.Prelude.{ℕ, ◌+◌, List, [], ◌∷◌, ◌++◌}
 use Rattle.step.specs.Kinds.{Output, out0, out1}
 use Rattle.lowered.specs.Gathered.{each}
-use Rattle.lowered.specs.Roles.{Role, op_node, stream, gate, guard, copySplit, copyInvariant, carry, argSplit, Wire, start, output, Use}
+use Rattle.lowered.specs.Roles.{Role, op_node, stream, gate, guard, copy_split, copy_invariant, carry, arg_split, Wire, start, output, Use}
 use Rattle.lowered.specs.Lower.{roles, wires, users}
 use Rattle.laid.specs.Listed.{role_row}
 
@@ -20,10 +20,10 @@ role_number (op_node r) = 0
 role_number (stream L) = 1
 role_number (gate L) = 2
 role_number (guard L) = 3
-role_number (copySplit L v) = 4
-role_number (copyInvariant L v) = 5
+role_number (copy_split L v) = 4
+role_number (copy_invariant L v) = 5
 role_number (carry a) = 6
-role_number (argSplit a) = 7
+role_number (arg_split a) = 7
 
 -- the row of the value carried in; 0 where there is none
 abbrev pub carried_row : Role → ℕ
@@ -31,10 +31,10 @@ carried_row (op_node r) = 0
 carried_row (stream L) = 0
 carried_row (gate L) = 0
 carried_row (guard L) = 0
-carried_row (copySplit L v) = v
-carried_row (copyInvariant L v) = v
+carried_row (copy_split L v) = v
+carried_row (copy_invariant L v) = v
 carried_row (carry a) = 0
-carried_row (argSplit a) = 0
+carried_row (arg_split a) = 0
 
 -- what it is, the row that it is laid down for (of a loop's nodes the FOR row), the row of the value carried in
 abbrev pub role_name : Role → List ℕ
@@ -55,15 +55,15 @@ output_number (gate L) out1 = 5
 output_number (guard L) out0 = 6
 output_number (guard L) out1 = 6
 -- the legs of a copy's SPLIT, and its INVARIANT's output
-output_number (copySplit L v) out0 = 7
-output_number (copySplit L v) out1 = 8
-output_number (copyInvariant L v) out0 = 9
-output_number (copyInvariant L v) out1 = 9
+output_number (copy_split L v) out0 = 7
+output_number (copy_split L v) out1 = 8
+output_number (copy_invariant L v) out0 = 9
+output_number (copy_invariant L v) out1 = 9
 -- CARRY's output, and the legs of an ARG's SPLIT
 output_number (carry a) out0 = 10
 output_number (carry a) out1 = 10
-output_number (argSplit a) out0 = 11
-output_number (argSplit a) out1 = 12
+output_number (arg_split a) out0 = 11
+output_number (arg_split a) out1 = 12
 
 abbrev pub wire_what : Wire → ℕ
 wire_what (start r) = 0

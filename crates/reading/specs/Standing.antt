@@ -1,25 +1,23 @@
--- Every loop that is open where the reading stands has an opening. So each further turn is counted, and the reading within an allowance is of bounded length.
+-- Every loop that is open where the reading stands has an opening. So each further turn is counted.
 --
---   Standing, begin-stands, step-further, reach-stands     it is so from the beginning on, and a step goes to a row further down or makes a turn
---   turn-counts, no-turn-made, one-turn-made      a further turn of a loop that has an opening is one turn more
---   walk-is-bounded                   with A turns allowed, (A + 1) times the rows and one step more are enough
+--   Standing, begin_stands, step_further, reach_stands     it is so from the beginning on, and a step goes to a row further down or makes a turn
+--   turn_counts, no_turn_made, one_turn_made      a further turn of a loop that has an opening is one turn more
 --
 -- Assumes nothing.
-use Rattle.std.specs.Prelude.{ℕ, zero, suc, ◌+◌, ◌*◌, ◌-◌, ◌<◌, ◌≤◌, Bool, true, false, cond, List, [], ◌∷◌, ◌≢◌, ◌⊎◌, ◌≡◌, refl, eqb}
-use Rattle.std.proofs.Math.Option.{some}
-use Rattle.std.proofs.Common.{inl, inr, sym, ap, ◌∙◌, suc-mul, arith, eqb-true}
+use Rattle.std.specs.Prelude.{ℕ, suc, ◌+◌, ◌<◌, ◌≤◌, Bool, true, false, cond, List, [], ◌∷◌, ◌⊎◌, ◌≡◌, refl, eqb}
+use Rattle.std.proofs.Common.{inl, inr, sym, ap, ◌∙◌, arith, eqb-true}
 use Rattle.std.proofs.Math.Path.{subst}
-use Rattle.std.proofs.Math.Decide.{dec_le, dec_lt}
+use Rattle.std.proofs.Math.Decide.{dec_lt}
 use Rattle.std.proofs.lemmas.Bool.{eqb-false}
 use Rattle.table.specs.Rows.{kind_at, size}
 use Rattle.table.specs.Scan.{body_of}
-use Rattle.table.specs.Bodies.{end_of, first_of}
+use Rattle.table.specs.Bodies.{end_of}
 use Rattle.table.specs.Right.{TableRight}
 use Rattle.structure.specs.Structure.{Structure, right_table_has_structure}
 use Rattle.structure.specs.Behind.{loops_at, loops_first, loops_around, loops_after_end, loops_after_other, loops_in_body}
-use Rattle.reading.specs.Reading.{Env, Opening, opening, State, at, Outcome, Step, on, stop, one_turn, begin, step}
+use Rattle.reading.specs.Reading.{Opening, opening, State, on, stop, one_turn, begin, step}
 use Rattle.reading.specs.Steps.{step_past, Stepped, goes_on, opens, skips, faults, turns, leaves, step_is}
-use Rattle.reading.specs.Within.{turns_made, Within, comes, spent, read_within, step_goes_on, step_goes_no_further, step_stops_there, Reach, here, then}
+use Rattle.reading.specs.Within.{turns_made, Reach, here, then}
 
 -- loop L has an opening
 pub data Opened (L : ℕ) : List Opening → Type 0 where
@@ -166,7 +164,7 @@ module _ (t : List ℕ) (ok : TableRight t) where
           })
 
   -- a step that goes on is of a row
-  on_below : (s s₁ : State) → step t s ≡ on s₁ → s.pc < size t
+  pub on_below : (s s₁ : State) → step t s ≡ on s₁ → s.pc < size t
   on_below s s₁ e =
       elim (dec_lt s.pc (size t)) [
         | yes l ↦ l
@@ -176,50 +174,3 @@ module _ (t : List ℕ) (ok : TableRight t) where
   pub reach_stands : {a b : State} → Reach t a b → Standing t a.pc a.openings → Standing t b.pc b.openings
   reach_stands here st = st
   reach_stands {a} {b} (then {s₁ = s₁} e p) st = reach_stands p (step_further a s₁ st (on_below a s₁ e) e).stands
-
-  -- ---- the length of the reading within an allowance
-  -- one step from m turns and row p to m₁ turns and row p₁, of n rows, with A turns allowed
-  one_shorter : (A n m p m₁ p₁ k : ℕ) → p < n → m₁ ≤ A → ((p < p₁) × (m₁ ≡ m)) ⊎ (m₁ ≡ suc m) → (A - m) * n + (n - p) ≤ k → (A - m₁) * n + (n - p₁) < k
-  one_shorter A n m p m₁ p₁ k l h (inl q) w = let q0 = q.0 in let e : (A - m₁) * n ≡ (A - m) * n = ap (λ (x : ℕ). (A - x) * n) q.1 in omega arith
-  one_shorter A n m p m₁ p₁ k l h (inr q) w =
-      let e : A - m ≡ suc (A - m₁) = omega arith in
-      let f : (A - m) * n ≡ suc (A - m₁) * n = ap (λ (x : ℕ). x * n) e in
-      let g = suc-mul (A - m₁) n in
-      omega arith
-
-  bounded : (A k : ℕ) (s : State) → Standing t s.pc s.openings → turns_made s.openings ≤ A → (A - turns_made s.openings) * size t + (size t - s.pc) < k
-      → (w : Within) × (read_within k A t s ≡ some w)
-  bounded A zero s st m h = absurd (omega arith)
-  bounded A (suc k) s st m h = go (step t s) refl (bounded A k)
-    where
-      go : (x : Step) → step t s ≡ x
-          → ((s : State) → Standing t s.pc s.openings → turns_made s.openings ≤ A → (A - turns_made s.openings) * size t + (size t - s.pc) < k → (w : Within) × (read_within k A t s ≡ some w))
-          → (w : Within) × (read_within (suc k) A t s ≡ some w)
-      go (stop o) e ih = (comes o, step_stops_there t A k s o e)
-      go (on s₁) e ih =
-          elim (dec_le (turns_made s₁.openings) A) [
-            | yes a ↦
-                let l = on_below s s₁ e in
-                let f = step_further s s₁ st l e in
-                let r = ih s₁ f.stands a (one_shorter A (size t) (turns_made s.openings) s.pc (turns_made s₁.openings) s₁.pc k l a f.further (omega arith)) in
-                (r.0, step_goes_on t A k s s₁ e a ∙ r.1)
-            | no n ↦ (spent, step_goes_no_further t A k s s₁ e (omega arith))
-          ]
-
-  fresh : (inputs : List ℕ) → (turns_made (begin t inputs).openings ≡ 0) × ((begin t inputs).pc ≡ 0)
-  unfolding begin turns_made
-  fresh inputs = (refl, refl)
-
-  -- THE READING WITHIN AN ALLOWANCE IS OF BOUNDED LENGTH
-  pub walk_is_bounded : (inputs : List ℕ) (A : ℕ) → (w : Within) × (read_within (suc (suc A * size t)) A t (begin t inputs) ≡ some w)
-  walk_is_bounded inputs A =
-      let z = fresh inputs in
-      let m = z.0 in
-      bounded A (suc (suc A * size t)) (begin t inputs) (begin_stands inputs) (omega arith) (enough (turns_made (begin t inputs).openings) (begin t inputs).pc z.0 z.1)
-    where
-      enough : (m p : ℕ) → m ≡ 0 → p ≡ 0 → (A - m) * size t + (size t - p) < suc (suc A * size t)
-      enough m p a b =
-          let d : A - m ≡ A = omega arith in
-          let e : (A - m) * size t ≡ A * size t = ap (λ (x : ℕ). x * size t) d in
-          let f = suc-mul A (size t) in
-          omega arith

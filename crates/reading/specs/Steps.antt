@@ -10,7 +10,7 @@ use Rattle.table.specs.Scan.{body_of}
 use Rattle.table.specs.Bodies.{Row, row_at, end_of, first_of}
 use Rattle.structure.specs.Decoded.{Decoded, is_input_lem, is_const, is_op_lem, is_pick, is_for_lem, is_arg_lem, is_next_lem, is_end, is_out_lem, is_unknown, decoded, op_row_lem, pick_row_lem, for_row, end_row}
 use Rattle.structure.specs.Structure.{Structure}
-use Rattle.reading.specs.Reading.{Env, Opening, opening, State, at, ended, zero_step, Step, on, stop, set_row, choose, one_turn, results_from, turn, leave, named, next_named, arg_named, for_step, end_step, end_by, row_step, step}
+use Rattle.reading.specs.Reading.{Env, Opening, opening, State, at, ended, zero_step, on, stop, set_row, choose, one_turn, results_from, turn, leave, named, next_named, arg_named, for_step, end_step, end_by, row_step, step}
 
 module _ (t : List ℕ) (s : State) where
   pub step_below : s.pc < size t → step t s ≡ row_step (row_at t s.pc) t s.pc s.env s.openings

@@ -1,25 +1,25 @@
 -- What the answer asks of a state, and the answers of a run, path by path.
 -- Assumes nothing.
 use Prim.Native.Nat.{ℕ, zero, suc, ◌+◌, ◌-◌, ◌*◌, ◌<◌, ◌≤◌}
-use mathlib.Core.Path.{◌≡◌, refl, sym, ap, ap₂, ◌∙◌, subst}
+use mathlib.Core.Path.{◌≡◌, refl, sym, ap, ◌∙◌, subst}
 use mathlib.Core.Bool.{Bool, true, false, not, ◌&&◌, ◌||◌}
-use mathlib.Core.List.{List, [], ◌∷◌}
+use mathlib.Core.List.{List}
 use mathlib.Core.Option.{Option, none, some}
 use native.Mathlib.Omega.{arith}
-use borrow.Author.Tests.{eq-eqb, ne_eqb, lt-ltb, le-ltb, ltb-true, ltb-false}
+use borrow.Author.Tests.{eq-eqb, ne_eqb, lt-ltb, le-ltb, ltb-true}
 use lib.Dec.{eqb, ltb}
-use lib.ListN.{get_or, length, replicate, length-replicate, get_or-replicate, get_elem?}
+use lib.ListN.{get_or, length, replicate, length-replicate, get_or-replicate}
 use Rattle.word.specs.Words.{pick}
-use Rattle.step.specs.Kinds.{Kind, kinds, kind_of, STREAM, GATE, CARRY, INVARIANT, SPLIT, FORK, DRAIN, OP, PICK, in0, in1, in2}
+use Rattle.step.specs.Kinds.{kind_of}
 use Rattle.step.specs.Shown.{token_of}
 use Rattle.step.specs.declared.Seen.{Seen}
 use Rattle.step.specs.declared.Token.{Token}
 use Rattle.step.specs.declared.Record.{Record}
 use Rattle.graph.specs.Below.{every, every_each, times}
 use Rattle.graph.specs.Counted.{counted, up_to_two, counted_at}
-use Rattle.graph.specs.Graph.{Node, node_of, node_at, node_count, wire_count, result_count, result_at, results, row_place, input_at}
+use Rattle.graph.specs.Graph.{node_of, node_at, node_count, wire_count, result_count, result_at, results, row_place}
 use Rattle.state.specs.State.{record_at, token_on, is_empty}
-use Rattle.state.specs.Net.{fire, is_ready, net_of}
+use Rattle.state.specs.Net.{net_of}
 use Rattle.state.specs.Run.{At, run, follow, finish, SPENT, COMPLETE, ZERO-STEP, STRANDED, Outcome, outcome, any_ready, complete, results_full, others_empty, phases_zero, is_full, is_result, is_stream, holds_token, holds_zero, zero_step_at, first_from, zero_step}
 use Rattle.machine.specs.Entries.{first, state_refusal}
 use Rattle.machine.proofs.Answers.{skips, stops}

@@ -6,7 +6,7 @@
 --   ranNumber, ranOutcome, ranFirings      the numbers for each case of the answer
 --
 -- Assumes nothing.
-use Rattle.std.specs.Prelude.{ℕ, ◌-◌, ◌≤◌, ◌<◌, ◌≡◌, Bool, true, false, not, ◌||◌, List, eqb, ltb, get_or, length}
+use Rattle.std.specs.Prelude.{ℕ, ◌-◌, ◌<◌, ◌≡◌, Bool, not, ◌||◌, List, eqb, ltb, get_or, length}
 use Rattle.word.specs.Words.{pick}
 use Rattle.graph.specs.Below.{every}
 use Rattle.graph.specs.Graph.{node_count, wire_count}

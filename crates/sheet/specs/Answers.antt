@@ -1,7 +1,7 @@
 -- WHAT THE TWO ENTRIES ANSWER: docs/RULES.md, section 'Sheets' and 19.
 --
---   readAnswer, wordsAfter     read_sheet: its answer, and the lent words after it
---   writeAnswer, bytesAfter    write_sheet: its answer, and the lent bytes after it
+--   read_answer, words_after     read_sheet: its answer, and the lent words after it
+--   write_answer, bytes_after    write_sheet: its answer, and the lent bytes after it
 --   ReadAnswer, WriteAnswer    the promises of the two
 --
 -- What the promises come to, with no word of a reader: `read_means` and `write_means` in Statements.antt. Assumes nothing.

@@ -1,8 +1,8 @@
 -- EXACT READERS: what it is that a reader reads a language and nothing else, and the ways of putting such readers together.
 --
 --   Exact                what a reader has to be
---   in-other-words       the same language, said in another way
---   nothing-more, both   no bytes; one part behind another
+--   in_other_words       the same language, said in another way
+--   nothing_more, both   no bytes; one part behind another
 --
 -- A language says how values are written: `L v x` says that x is how v is written. That no text of it has the byte at which the reader breaks
 -- follows from `back` and `local`: such a text would be read, and it would break. Assumes nothing.

@@ -1,9 +1,9 @@
 -- THE READER OF SHEETS, part by part. A part of a text is read as a value, or the text cannot go on.
 --
 --   Read, and_then, farthest     what reading comes to; one part behind another; the better of two
---   fixedFrom, numberFrom, kindFrom
---   wordsFrom, rowFrom, rows_from, tableFrom
---   readSheet                   the whole text
+--   fixed_from, number_from, kind_from
+--   words_from, row_from, rows_from, table_from
+--   read_sheet                   the whole text
 --
 -- That this is the reading which sheets themselves lay down: `read_back`, `one_sheet` and `read_means` in Statements.antt.
 -- Assumes nothing.

@@ -2,9 +2,9 @@
 --
 --   decimal               a number's digits
 --   line_of                a line: key, value and line feed
---   rowText, rowsText     a row's lines, the lines of all rows
---   sheetOf               the sheet
---   sheetRefusal, hasSheet  1 to 3, which say whether a table has one
+--   row_text, rows_text     a row's lines, the lines of all rows
+--   sheet_of               the sheet
+--   sheet_refusal, has_sheet  1 to 3, which say whether a table has one
 --
 -- A text is the list of its bytes. Assumes nothing.
 use Rattle.std.specs.Prelude.{ℕ, zero, suc, ◌+◌, ◌/◌, ◌%◌, Bool, cond, List, [], ◌∷◌, ◌++◌, eqb, ltb}

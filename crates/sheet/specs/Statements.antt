@@ -1,17 +1,17 @@
 -- WHAT IS TRUE OF ALL SHEETS.
 --
 --   Sheet                        a sheet: the text of a table that passes 1 to 3
---   read-back, one-sheet         a table's sheet is read as the table; and what is read as a table is its sheet
---   read_alike, written-alike    two texts that are read as one table are one text; two tables with one sheet are one table
+--   read_back, one_sheet         a table's sheet is read as the table; and what is read as a table is its sheet
+--   read_alike, written_alike    two texts that are read as one table are one text; two tables with one sheet are one table
 --   First                        an offset up to which a text can still become a sheet, and not one byte further
---   first-is-longest             no longer beginning of the text can go on
---   first-is-one                 there is no second such offset
---   checked-has-sheet            a table that the check of rows accepts has a sheet
+--   first_is_longest             no longer beginning of the text can go on
+--   first_is_one                 there is no second such offset
+--   checked_has_sheet            a table that the check of rows accepts has a sheet
 --   ReadMeans, WriteMeans        what `read_sheet` and `write_sheet` come to, in three cases each, with no word of a reader
---   read-means, write-means      that is what the two promise
---   offset-is-first              the offset that comes with 19 is a `First`
---   written-is-read              what `write_sheet` wrote, `read_sheet` reads
---   one-read, one-write          no second outcome fits the promises of the two
+--   read_means, write_means      that is what the two promise
+--   offset_is_first              the offset that comes with 19 is a `First`
+--   written_is_read              what `write_sheet` wrote, `read_sheet` reads
+--   one_read, one_write          no second outcome fits the promises of the two
 --
 -- Assumes nothing.
 use Rattle.std.specs.Prelude.{ℕ, zero, suc, ◌+◌, ◌-◌, ◌≤◌, ◌<◌, Bool, true, false, cond, List, [], ◌∷◌, ◌++◌, ◌≡◌, refl, eqb, leb, ltb, length, get_or, take, drop}

@@ -1,8 +1,8 @@
 -- Fixed bytes and numbers, read at a place p of a text: what stands from there on, a law for each branch.
---   fixed-short, fixed-other, fixed-go, fixed-all
---   digits-end, digits-stop, digits-go
---   number-end, number-none, number-zero, number-go
---   line-no-key, line-number
+--   fixed_short, fixed_other, fixed_go, fixed_all
+--   digits_end, digits_stop, digits_go
+--   number_end, number_none, number_zero, number_go
+--   line_no_key, line_number
 -- Assumes nothing.
 use Prim.Native.Nat.{ℕ, ◌+◌, ◌-◌, ◌*◌, ◌<◌, ◌≤◌}
 use mathlib.Core.Bool.{Bool, true, false, ◌&&◌}

@@ -1,7 +1,7 @@
 -- The kinds' names, one after the other, and how far the text goes on with one of them.
---   farther-of            the farther of two places
---   names-begin, names-on, names-found, names-end
---   name-room, start-room, due   the due bytes in a buffer
+--   farther_of            the farther of two places
+--   names_begin, names_on, names_found, names_end
+--   name_room, start_room, due   the due bytes in a buffer
 -- Assumes nothing.
 use Prim.Native.Nat.{ℕ, suc, ◌+◌, ◌-◌, ◌<◌, ◌≤◌}
 use mathlib.Core.Bool.{Bool, true, false, cond}

@@ -1,8 +1,8 @@
 -- Words that are read and stored one behind the other, and the lines of a row's words.
---   clear-go, copy-go
---   Going, going-begin, going_on, going-stops, going-ends    a loop that reads piece by piece
---   unfilled, where-stopped                                  a part that stops
---   words-begin, words-on, words-stop, words-end
+--   clear_go, copy_go
+--   Going, going_begin, going_on, going_stops, going_ends    a loop that reads piece by piece
+--   unfilled, where_stopped                                  a part that stops
+--   words_begin, words_on, words_stop, words_end
 -- Assumes nothing.
 use Prim.Native.Nat.{ℕ, suc, ◌+◌, ◌-◌, ◌<◌, ◌≤◌}
 use mathlib.Core.List.{List, [], ◌∷◌, ◌++◌, append-nil, append_assoc}

@@ -1,8 +1,8 @@
 -- Rows, the table and the whole text: each part stops at one of its parts, or is read.
---   row-no-start, row-no-kind, row-no-words, row_read
---   rows-begin, rows_on, rows-stop, rows_end
---   table-no-key, table-no-number, table-read
---   whole-stop, whole-more, whole-all
+--   row_no_start, row_no_kind, row_no_words, row_read
+--   rows_begin, rows_on, rows_stop, rows_end
+--   table_no_key, table_no_number, table_read
+--   whole_stop, whole_more, whole_all
 -- Assumes nothing.
 use Prim.Native.Nat.{ℕ, suc, ◌+◌, ◌-◌, ◌*◌, ◌<◌, ◌≤◌}
 use mathlib.Core.List.{List, [], ◌∷◌, ◌++◌}

@@ -3,7 +3,7 @@
 --   told, place_of, worth    a value and the place behind it, or the place where the text cannot go on
 --   Reads                   a part that stands for a number
 --   Filled, Stores          a part that stands for words, which are stored one behind the other
---   lineFrom                the line of one word
+--   line_from                the line of one word
 --
 -- Assumes nothing.
 use Rattle.std.specs.Prelude.{ℕ, ◌≤◌, List, ◌≡◌, length, drop}

@@ -1,9 +1,9 @@
 -- That the clause told is one that the table breaks.
 --
 --   Broken                      the clauses, one a line, in the words of the check's own tests
---   told-clause-is-broken       what a refused table is told is one of them
---   spare-told .. types-told    a test of the check fails exactly where a word or a fault is told
---   one-telling                 a table is told in one way
+--   told_clause_is_broken       what a refused table is told is one of them
+--   spare_told .. types_told    a test of the check fails exactly where a word or a fault is told
+--   one_telling                 a table is told in one way
 --
 -- Assumes nothing.
 use Rattle.std.specs.Prelude.{ℕ, zero, suc, ◌+◌, ◌-◌, ◌%◌, ◌<◌, ◌≤◌, Bool, true, false, cond, ◌&&◌, ◌||◌, List, [], ◌∷◌, ◌≡◌, refl, eqb, leb, ltb, length}

@@ -1,7 +1,7 @@
 -- Which clause of a refusal a table breaks: the word, the fault and the loop that people are told beside the number and the row.
 --
---   spareWord, codeWord, hiddenWord, mistypedWord   the first word of a row that breaks 3, 4, 7, 8; 0 where none does
---   placeFault, sight                               what is wrong with a row's place, with a name; 0 where nothing is
+--   spare_word, code_word, hidden_word, mistyped_word   the first word of a row that breaks 3, 4, 7, 8; 0 where none does
+--   place_fault, sight                               what is wrong with a row's place, with a name; 0 where nothing is
 --   Detail, explained                               all that is told of a refusal
 --   Told                                            a refusal told: its number and row are the check's
 --

@@ -1,9 +1,9 @@
 -- What is told of loops: where the NEXTs of a loop stand, and that a loop is told by a FOR row.
 --
---   rows-before-pass      the rows before a refused one pass
---   nexts-stand-before    the NEXTs of the innermost loop are the rows directly before; a NEXT too many is told with their rows
---   body-is-for           the body in which a row stands is the outermost one, or a FOR row
---   home-is-for           likewise the home of a value
+--   rows_before_pass      the rows before a refused one pass
+--   nexts_stand_before    the NEXTs of the innermost loop are the rows directly before; a NEXT too many is told with their rows
+--   body_is_for           the body in which a row stands is the outermost one, or a FOR row
+--   home_is_for           likewise the home of a value
 --
 -- Assumes nothing.
 use Rattle.std.specs.Prelude.{ℕ, zero, suc, ◌+◌, ◌-◌, ◌<◌, ◌≤◌, Bool, true, false, cond, ◌&&◌, List, [], ◌∷◌, ◌≡◌, refl, ◌⊎◌, eqb, leb}

@@ -1,6 +1,6 @@
 -- Rows that name rows, and single words set. Assumes nothing.
 use Prim.Native.Nat.{ℕ, zero, suc, ◌+◌, ◌≤◌, ◌<◌}
-use mathlib.Core.Bool.{Bool, true, false, cond}
+use mathlib.Core.Bool.{cond}
 use mathlib.Core.List.{List}
 use mathlib.Core.Logic.{◌≢◌}
 use mathlib.Core.Path.{◌≡◌, refl, sym, ap, ◌∙◌, subst}
@@ -13,7 +13,7 @@ use lib.Seq.{get_or-set_same, get_or-set_other}
 use Rattle.table.specs.Rows.{kind_at, word, size, operand_count, first_operand}
 use Rattle.table.specs.Right.{TableRight}
 use Rattle.structure.specs.Structure.{Structure, right_table_has_structure}
-use Rattle.reading.specs.Reading.{Env, set_row, choose}
+use Rattle.reading.specs.Reading.{set_row, choose}
 use Rattle.turning.specs.Words.{env_of, Names}
 
 module _ (t : List ℕ) (ok : TableRight t) where

@@ -3,7 +3,7 @@ use Prim.Native.Nat.{ℕ, ◌+◌, ◌≤◌, ◌<◌}
 use mathlib.Core.Bool.{cond}
 use mathlib.Core.List.{List}
 use mathlib.Core.Logic.{◌≢◌}
-use mathlib.Core.Path.{◌≡◌, refl, sym, ap, ◌∙◌, subst}
+use mathlib.Core.Path.{◌≡◌, sym, ap, ◌∙◌}
 use native.Mathlib.Omega.{arith}
 use native.Mathlib.Decide.{ℕ_discrete}
 use native.Mathlib.Numerals.{add-one}
@@ -15,7 +15,6 @@ use Rattle.table.specs.Rows.{kind_at, size}
 use Rattle.table.specs.Scan.{body_of}
 use Rattle.table.specs.Bodies.{end_of}
 use Rattle.table.specs.Right.{TableRight}
-use Rattle.structure.specs.Spans.{Span}
 use Rattle.structure.specs.Behind.{body_first, body_after_for, body_after_end, body_after_other}
 use Rattle.structure.specs.Structure.{Structure, right_table_has_structure}
 use Rattle.turning.specs.Words.{body_after, note_at, note_of, Ends}

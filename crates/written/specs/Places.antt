@@ -20,7 +20,7 @@ use Rattle.table.specs.Scan.{body_of, reads}
 use Rattle.table.specs.Bodies.{next_of}
 use Rattle.structure.specs.Structure.{Structure}
 use Rattle.lowered.specs.Gathered.{gathered, those, each}
-use Rattle.lowered.specs.Roles.{Role, op_node, stream, gate, guard, copySplit, copyInvariant, carry, argSplit, output, same_role}
+use Rattle.lowered.specs.Roles.{Role, op_node, stream, gate, guard, copy_split, copy_invariant, carry, arg_split, output, same_role}
 use Rattle.lowered.specs.Sources.{carried, Feed, value, inner, nothing, is_op, is_for, wire_of, role_feed}
 use Rattle.lowered.specs.Lower.{carried_into, copy, row_roles, roles, role_kind, wire_number}
 use Rattle.laid.specs.Lists.{there, below_or_last, elem_left, elem_right, position_is}
@@ -67,8 +67,8 @@ module _ (t : List ℕ) where
   pub carry_place : (a : ℕ) → a < size t → kind_at t a ≡ 5 → get_elem? (roles t) (node_base t a) ≡ some (carry a)
   carry_place a l k = let z : node_base t a ≡ node_base t a + 0 = omega arith in ap (get_elem? (roles t)) z ∙ place a 0 (carry a) _ l (arg_roles_lem t a k) refl
 
-  pub arg_split_place : (a : ℕ) → a < size t → kind_at t a ≡ 5 → get_elem? (roles t) (node_base t a + 1) ≡ some (argSplit a)
-  arg_split_place a l k = place a 1 (argSplit a) _ l (arg_roles_lem t a k) refl
+  pub arg_split_place : (a : ℕ) → a < size t → kind_at t a ≡ 5 → get_elem? (roles t) (node_base t a + 1) ≡ some (arg_split a)
+  arg_split_place a l k = place a 1 (arg_split a) _ l (arg_roles_lem t a k) refl
 
   copy_at : (L v j : ℕ) (n : Role) → v < size t → carried t L v ≡ true → get_elem? (copy L v) j ≡ some n → get_elem? (each (copy L) (carried_into t L)) (2 * copy_place t L v + j) ≡ some n
   unfolding carried_into copy_place
@@ -80,15 +80,15 @@ module _ (t : List ℕ) where
       place L (3 + (2 * copy_place t L v + j)) n _ l_l (for_roles t L k)
       (elem_right (stream L ∷ gate L ∷ guard L ∷ []) (each (copy L) (carried_into t L)) (2 * copy_place t L v + j) ∙ copy_at L v j n lv c h)
 
-  pub copy_split_place : (L v : ℕ) → L < size t → kind_at t L ≡ 4 → v < size t → carried t L v ≡ true → get_elem? (roles t) (node_base t L + (3 + 2 * copy_place t L v)) ≡ some (copySplit L v)
+  pub copy_split_place : (L v : ℕ) → L < size t → kind_at t L ≡ 4 → v < size t → carried t L v ≡ true → get_elem? (roles t) (node_base t L + (3 + 2 * copy_place t L v)) ≡ some (copy_split L v)
   copy_split_place L v l_l k lv c =
       let z : node_base t L + (3 + 2 * copy_place t L v) ≡ node_base t L + (3 + (2 * copy_place t L v + 0)) = omega arith in
-      ap (get_elem? (roles t)) z ∙ copy_place_lem L v 0 (copySplit L v) l_l k lv c refl
+      ap (get_elem? (roles t)) z ∙ copy_place_lem L v 0 (copy_split L v) l_l k lv c refl
 
-  pub copy_invariant_place : (L v : ℕ) → L < size t → kind_at t L ≡ 4 → v < size t → carried t L v ≡ true → get_elem? (roles t) (node_base t L + (4 + 2 * copy_place t L v)) ≡ some (copyInvariant L v)
+  pub copy_invariant_place : (L v : ℕ) → L < size t → kind_at t L ≡ 4 → v < size t → carried t L v ≡ true → get_elem? (roles t) (node_base t L + (4 + 2 * copy_place t L v)) ≡ some (copy_invariant L v)
   copy_invariant_place L v l_l k lv c =
       let z : node_base t L + (4 + 2 * copy_place t L v) ≡ node_base t L + (3 + (2 * copy_place t L v + 1)) = omega arith in
-      ap (get_elem? (roles t)) z ∙ copy_place_lem L v 1 (copyInvariant L v) l_l k lv c refl
+      ap (get_elem? (roles t)) z ∙ copy_place_lem L v 1 (copy_invariant L v) l_l k lv c refl
 
   -- ---- rows are right
   same_role_lem : (i : ℕ) (n m : Role) → get_elem? (roles t) i ≡ some n → get_elem? (roles t) i ≡ some m → n ≡ m
@@ -125,14 +125,14 @@ module _ (t : List ℕ) where
       go (stream L) h l = at (stream L) _ h (stream_place L l.row (for L l.there)) (R.loops L l.row (for L l.there)).0
       go (gate L) h l = at (gate L) _ h (gate_place L l.row (for L l.there)) (R.loops L l.row (for L l.there)).1
       go (guard L) h l = at (guard L) _ h (guard_place L l.row (for L l.there)) (R.loops L l.row (for L l.there)).2
-      go (copySplit L v) h l =
+      go (copy_split L v) h l =
           let c = copied L v l.there in
-          at (copySplit L v) _ h (copy_split_place L v l.row c.0 l.value c.1) (R.copies L v l.row c.0 l.value c.1).0
-      go (copyInvariant L v) h l =
+          at (copy_split L v) _ h (copy_split_place L v l.row c.0 l.value c.1) (R.copies L v l.row c.0 l.value c.1).0
+      go (copy_invariant L v) h l =
           let c = copied L v l.there in
-          at (copyInvariant L v) _ h (copy_invariant_place L v l.row c.0 l.value c.1) (R.copies L v l.row c.0 l.value c.1).1
+          at (copy_invariant L v) _ h (copy_invariant_place L v l.row c.0 l.value c.1) (R.copies L v l.row c.0 l.value c.1).1
       go (carry a) h l = at (carry a) _ h (carry_place a l.row (eqb-true (kind_at t a) 5 l.there)) (R.args a l.row (eqb-true (kind_at t a) 5 l.there)).0
-      go (argSplit a) h l = at (argSplit a) _ h (arg_split_place a l.row (eqb-true (kind_at t a) 5 l.there)) (R.args a l.row (eqb-true (kind_at t a) 5 l.there)).1
+      go (arg_split a) h l = at (arg_split a) _ h (arg_split_place a l.row (eqb-true (kind_at t a) 5 l.there)) (R.args a l.row (eqb-true (kind_at t a) 5 l.there)).1
 
 module _ (t : List ℕ) (S : Structure t) where
   -- ---- the words of each node
@@ -186,20 +186,20 @@ module _ (t : List ℕ) (S : Structure t) where
   guard_node L l k = words_are (guard L) OP _ _ _ _ _ _ refl (real_row (guard L) _ (guard_place t L l k)) refl refl refl (guard_number t L l k)
 
   pub copy_split_node : (L v : ℕ) → L < size t → kind_at t L ≡ 4 → v < size t → carried t L v ≡ true
-      → plain_node t (copySplit L v) ≡ node SPLIT 0 (sort_of t v) (wire_base t L + 4) (value_number t v (reads t L)) absent (wire_base t L + (5 + 3 * copy_place t L v))
+      → plain_node t (copy_split L v) ≡ node SPLIT 0 (sort_of t v) (wire_base t L + 4) (value_number t v (reads t L)) absent (wire_base t L + (5 + 3 * copy_place t L v))
   copy_split_node L v l_l k lv c =
       let z : wire_base t L + (5 + (3 * copy_place t L v + 0)) ≡ wire_base t L + (5 + 3 * copy_place t L v) = omega arith in
-      words_are (copySplit L v) SPLIT _ _ _ _ _ _ refl (real_row (copySplit L v) _ (copy_split_place t L v l_l k lv c)) (guard_number t L l_l k) refl refl
-      (copy_number t L v 0 (output (copySplit L v) out0) l_l k lv c refl ∙ z)
+      words_are (copy_split L v) SPLIT _ _ _ _ _ _ refl (real_row (copy_split L v) _ (copy_split_place t L v l_l k lv c)) (guard_number t L l_l k) refl refl
+      (copy_number t L v 0 (output (copy_split L v) out0) l_l k lv c refl ∙ z)
 
   pub copy_invariant_node : (L v : ℕ) → L < size t → kind_at t L ≡ 4 → v < size t → carried t L v ≡ true
-      → plain_node t (copyInvariant L v) ≡ node INVARIANT 0 (sort_of t v) (wire_base t L + 3) (wire_base t L + (5 + 3 * copy_place t L v)) absent (wire_base t L + (7 + 3 * copy_place t L v))
+      → plain_node t (copy_invariant L v) ≡ node INVARIANT 0 (sort_of t v) (wire_base t L + 3) (wire_base t L + (5 + 3 * copy_place t L v)) absent (wire_base t L + (7 + 3 * copy_place t L v))
   copy_invariant_node L v l_l k lv c =
       let z : wire_base t L + (5 + (3 * copy_place t L v + 0)) ≡ wire_base t L + (5 + 3 * copy_place t L v) = omega arith in
       let y : wire_base t L + (5 + (3 * copy_place t L v + 2)) ≡ wire_base t L + (7 + 3 * copy_place t L v) = omega arith in
-      words_are (copyInvariant L v) INVARIANT _ _ _ _ _ _ refl (real_row (copyInvariant L v) _ (copy_invariant_place t L v l_l k lv c)) (gate_number t L l_l k).1
-      (copy_number t L v 0 (output (copySplit L v) out0) l_l k lv c refl ∙ z) refl
-      (copy_number t L v 2 (output (copyInvariant L v) out0) l_l k lv c refl ∙ y)
+      words_are (copy_invariant L v) INVARIANT _ _ _ _ _ _ refl (real_row (copy_invariant L v) _ (copy_invariant_place t L v l_l k lv c)) (gate_number t L l_l k).1
+      (copy_number t L v 0 (output (copy_split L v) out0) l_l k lv c refl ∙ z) refl
+      (copy_number t L v 2 (output (copy_invariant L v) out0) l_l k lv c refl ∙ y)
 
   pub carry_node : (a : ℕ) → a < size t → kind_at t a ≡ 5
       → plain_node t (carry a) ≡ node CARRY 0 0 (wire_base t (body_of t a) + 1) (operand_number t a 0) (operand_number t (next_of t a) 0) (wire_base t a)
@@ -209,8 +209,8 @@ module _ (t : List ℕ) (S : Structure t) where
       words_are (carry a) CARRY _ _ _ _ _ _ refl (real_row (carry a) _ (carry_place t a l k)) (stream_number t (body_of t a) (omega arith) r.loop_for).1 refl refl (carry_number t a l k ∙ no_more (wire_base t a))
 
   pub arg_split_node : (a : ℕ) → a < size t → kind_at t a ≡ 5
-      → plain_node t (argSplit a) ≡ node SPLIT 0 0 (wire_base t (body_of t a) + 1) (wire_base t a) absent (wire_base t a + 1)
+      → plain_node t (arg_split a) ≡ node SPLIT 0 0 (wire_base t (body_of t a) + 1) (wire_base t a) absent (wire_base t a + 1)
   arg_split_node a l k =
       let r = S.arg_row a l k in
       let low = r.low in
-      words_are (argSplit a) SPLIT _ _ _ _ _ _ refl (real_row (argSplit a) _ (arg_split_place t a l k)) (stream_number t (body_of t a) (omega arith) r.loop_for).1 (carry_number t a l k ∙ no_more (wire_base t a)) refl (arg_number t a l k).0
+      words_are (arg_split a) SPLIT _ _ _ _ _ _ refl (real_row (arg_split a) _ (arg_split_place t a l k)) (stream_number t (body_of t a) (omega arith) r.loop_for).1 (carry_number t a l k ∙ no_more (wire_base t a)) refl (arg_number t a l k).0

@@ -24,7 +24,7 @@ use Rattle.graph.specs.Graph.{Node}
 use Rattle.table.specs.Rows.{kind_at, size}
 use Rattle.structure.specs.Structure.{Structure}
 use Rattle.lowered.specs.Gathered.{those, each}
-use Rattle.lowered.specs.Roles.{Role, op_node, stream, gate, guard, copySplit, copyInvariant, carry, argSplit, Wire, start, output, Use, result, same_wire}
+use Rattle.lowered.specs.Roles.{Role, op_node, stream, gate, guard, copy_split, copy_invariant, carry, arg_split, Wire, start, output, Use, result, same_wire}
 use Rattle.lowered.specs.Lower.{roles, role_kind, role_code, role_sort, is_start, start_rows, starts, outputs_by, role_outputs, wires, wire_number, wire_sort, users, out_rows, drain_node, fork_node, fork_rows, fork_wires, plain_nodes, plain_wires, stands_on, role_node, nodes_from, forks_from, lowered_nodes, start_words, node_words, node_total, wire_total, start_total, result_total, lowered_words}
 use Rattle.laid.specs.Lists.{there, has_elem, elem_left, elem_right, position_is, those_from, those_once}
 use Rattle.laid.specs.Indexed.{sum_of, each_append, joined_along, joined_same, joined_first, total_along}
@@ -69,10 +69,10 @@ one_or_two t (op_node r) = inl (which (eqb (kind_at t r) 2))
 one_or_two t (stream L) = inr refl
 one_or_two t (gate L) = inr refl
 one_or_two t (guard L) = inl refl
-one_or_two t (copySplit L v) = inr refl
-one_or_two t (copyInvariant L v) = inl refl
+one_or_two t (copy_split L v) = inr refl
+one_or_two t (copy_invariant L v) = inl refl
 one_or_two t (carry a) = inl refl
-one_or_two t (argSplit a) = inr refl
+one_or_two t (arg_split a) = inr refl
 
 module _ (t : List ℕ) where
   abbrev outputs_of_role : Role → ℕ

@@ -1,0 +1,10 @@
+-- `forking::added_nodes` meets its contract. A wire without a use has a drain, any other a fork less than it has uses.
+-- Assumes nothing.
+use borrow.Author.Tests.{ne_eqb}
+use Rattle.forking.proofs.added_nodes.Goals as goal
+
+pub returns-in-0 : goal.returns-in-0
+returns-in-0 c = rw c.in-0.is
+
+pub returns-in_default : goal.returns-in_default
+returns-in_default c = rw (ne_eqb _ 0 c.in_default.in_default-own.rest.1)

@@ -1,0 +1,3 @@
+-- The laws of the reading within an allowance.
+pub mod Within
+pub mod Bounded
