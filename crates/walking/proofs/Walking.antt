@@ -1,29 +1,27 @@
 -- Walks behind one another, and what one row, a loop that opens and a body that has come to its END are to the reading.
 -- Assumes nothing.
-use Prim.Native.Nat.{ℕ, zero, suc, ◌+◌, ◌-◌, ◌≤◌, ◌<◌}
+use Prim.Native.Nat.{ℕ, suc, ◌+◌, ◌-◌, ◌≤◌, ◌<◌}
 use mathlib.Core.List.{List, [], ◌∷◌}
-use mathlib.Core.Logic.{◌≢◌, ◌⊎◌, ⊎_elim, inl, inr}
+use mathlib.Core.Logic.{◌≢◌, ⊎_elim}
 use mathlib.Core.Path.{◌≡◌, refl, sym, ap, ◌∙◌, subst}
 use native.Mathlib.Omega.{arith}
 use native.Mathlib.Numerals.{add-one}
 use lib.ListN.{length}
-use denote.Enum.Declared.{tag_of}
 use Rattle.word.specs.Words.{condition, update, operate}
 use Rattle.table.specs.Rows.{kind_at, word, size}
 use Rattle.table.specs.Scan.{body_of}
 use Rattle.table.specs.Bodies.{end_of, first_of}
 use Rattle.table.specs.Right.{TableRight}
 use Rattle.structure.specs.Structure.{Structure, right_table_has_structure}
-use Rattle.structure.specs.Behind.{loops_at, loops_last, loops_after_end, loops_after_other, loops_in_body, loops_after_for, loops_few, same_loops, body_in_body}
-use Rattle.reading.specs.Reading.{Env, Opening, opening, State, at, zero_step, on, stop, set_row, choose, turn, leave, named, next_named, arg_named, one_turn, step}
+use Rattle.structure.specs.Behind.{loops_at, loops_last, loops_after_end, loops_after_other, loops_in_body, loops_few, same_loops, body_in_body}
+use Rattle.reading.specs.Reading.{Env, Opening, opening, at, on, set_row, choose, turn, leave, named, next_named, arg_named, one_turn, step}
 use Rattle.reading.specs.Steps.{step_op, step_pick, step_other, step_faults, step_skips, step_opens, step_leaves, step_turns}
-use Rattle.reading.specs.Within.{turns_made, Reach, here, then, joined, Due}
+use Rattle.reading.specs.Within.{turns_made, here, then, joined}
 use Rattle.reading.specs.Standing.{Opened, Standing, turn_counts, no_turn_made, one_turn_made, end_opened, reach_stands}
-use Rattle.turning.specs.Words.{env_of, Long, Ends, LoopAt}
-use Rattle.walking.specs.contracts.Went.{the_type}
+use Rattle.turning.specs.Words.{env_of, LoopAt}
 use Rattle.walking.specs.declared.Went.{Went}
 use Rattle.walking.specs.declared.Went.TheVariants.{On, Zero, Spent}
-use Rattle.walking.specs.Walks.{Ready, Comes, Moves, Walk, Stops, Faults, Dues, Walked, Rowed, Turned}
+use Rattle.walking.specs.Walks.{Ready, Moves, Walk, Faults, Dues, Walked, Rowed, Turned}
 
 -- ---- what is ready stays so
 pub still_ready : {t : List ℕ} {n : ℕ} {notes words words₁ aside aside₁ : List ℕ} → Ready t n notes words aside → length words₁ ≡ length words → length aside₁ ≡ length aside
@@ -60,7 +58,7 @@ module _ {t : List ℕ} (ok : TableRight t) where
         made = y.made ∙ x.turns;
         over = y.over;
         next = y.next;
-        one_more_lem = y.one_more ∙ ap suc x.turns;
+        one_more_lem = y.one_more_lem ∙ ap suc x.turns;
       }
 
   pub walks_on : {i p q a l m : ℕ} {e e₁ e₂ : List ℕ} → Walk t i e a p l e₁ → Walk t p e₁ l q m e₂ → Walk t i e a q m e₂
@@ -72,13 +70,13 @@ module _ {t : List ℕ} (ok : TableRight t) where
       record { moves = moves_on v.moves w.moves; same = w.same ∙ v.same; fewer = omega arith; onward = omega arith; within = w.within }
 
   -- a walker that comes no further answers so for the one that called it
-  pub row_halts : (w : Went) (e₂ : List ℕ) {i p a l : ℕ} {e e₁ : List ℕ} → (tag_of the_type w ≡ 1) ⊎ (tag_of the_type w ≡ 2) → Moves t i e a p l e₁ → l ≤ a → Rowed t p e₁ l w e₂ → Walked t i e a w e₂
-  row_halts (On p l) e₂ h v g r = ⊎_elim (λ z. absurd (omega arith)) (λ z. absurd (omega arith)) h
+  pub row_halts : (w : Went) (e₂ : List ℕ) {i p a l : ℕ} {e e₁ : List ℕ} → ((x y : ℕ) → w ≡ On x y → ⊥) → Moves t i e a p l e₁ → l ≤ a → Rowed t p e₁ l w e₂ → Walked t i e a w e₂
+  row_halts (On p l) e₂ h v g r = absurd (h p l refl)
   row_halts (Zero r l) e₂ h v g w = faults_later v g w
   row_halts Spent e₂ h v g w = dues_later v w
 
-  pub body_halts : (w : Went) (L : ℕ) (e₂ : List ℕ) {i p a l : ℕ} {e e₁ : List ℕ} → (tag_of the_type w ≡ 1) ⊎ (tag_of the_type w ≡ 2) → Moves t i e a p l e₁ → l ≤ a → Walked t p e₁ l w e₂ → Turned t L i e a w e₂
-  body_halts (On p l) L e₂ h v g r = ⊎_elim (λ z. absurd (omega arith)) (λ z. absurd (omega arith)) h
+  pub body_halts : (w : Went) (L : ℕ) (e₂ : List ℕ) {i p a l : ℕ} {e e₁ : List ℕ} → ((x y : ℕ) → w ≡ On x y → ⊥) → Moves t i e a p l e₁ → l ≤ a → Walked t p e₁ l w e₂ → Turned t L i e a w e₂
+  body_halts (On p l) L e₂ h v g r = absurd (h p l refl)
   body_halts (Zero r l) L e₂ h v g w = faults_later v g w
   body_halts Spent L e₂ h v g w = dues_later v w
 
