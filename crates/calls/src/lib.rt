@@ -1,9 +1,10 @@
 // Calls as lines: a name, numbers in decimal, lists with semicolons between. One line is one call and has one line for its answer.
-// `answer` works on lent memory alone; `serve` reads lines from a descriptor and writes their answers to another.
+// `answer` works on lent memory alone; `serve` reads lines from a channel and writes their answers to another.
 #![tactic(auto)]
 
 ghost use Rattle.std.specs.Prelude.{◌≤◌, ◌<◌, length};
 
+use channels::Channels;
 use engine::Plain;
 use machine::Fired;
 use run::Ran;
@@ -650,7 +651,7 @@ pub fn answer(line: &[u8], out: &mut [u8]) -> usize
     call_line(call, rest, out)
 }
 
-// Lines from a descriptor.
+// Lines from a channel.
 
 // The letters of a line so far, and whether there were too many.
 #[derive(Clone, Copy)]
@@ -689,20 +690,20 @@ fn reply(line: Line, text: &[u8], out: &mut [u8]) -> usize
 }
 
 // Answers a line, and writes the answer.
-fn tell(to: i32, line: Line, text: &[u8], out: &mut [u8])
+fn tell<R: Channels>(rt: &R, to: i32, line: Line, text: &[u8], out: &mut [u8])
     requires { line.count ≤ length text.now }
 {
     let n = reply(line, text, out);
     let m = text::put_letter(out, n, b'\n');
-    io::write_all(to, &out[..m]);
+    channels::tell(rt, to, &out[..m]);
 }
 
-fn take(b: u8, to: i32, line: Line, text: &mut [u8], out: &mut [u8]) -> Line
+fn take<R: Channels>(rt: &R, b: u8, to: i32, line: Line, text: &mut [u8], out: &mut [u8]) -> Line
     requires { line.count ≤ length text.old }
     ensures { result.count ≤ length text.old }
 {
     if b == b'\n' {
-        tell(to, line, text, out);
+        tell(rt, to, line, text, out);
         return Line {
             count: 0,
             long: false,
@@ -711,34 +712,40 @@ fn take(b: u8, to: i32, line: Line, text: &mut [u8], out: &mut [u8]) -> Line
     gather(text, line, b)
 }
 
-fn feed(chunk: &[u8], to: i32, given: Line, text: &mut [u8], out: &mut [u8]) -> Line
+fn feed<R: Channels>(
+    rt: &R,
+    chunk: &[u8],
+    to: i32,
+    given: Line,
+    text: &mut [u8],
+    out: &mut [u8],
+) -> Line
     requires { given.count ≤ length text.old }
     ensures { result.count ≤ length text.old }
 {
     let mut line = given;
     let mut i: usize = 0;
     while i < chunk.len() {
-        line = take(chunk[i], to, line, text, out);
+        line = take(rt, chunk[i], to, line, text, out);
         i += 1;
     }
     line
 }
 
 // A last line that has no end is a line too.
-fn close(to: i32, line: Line, text: &[u8], out: &mut [u8])
+fn close<R: Channels>(rt: &R, to: i32, line: Line, text: &[u8], out: &mut [u8])
     requires { line.count ≤ length text.now }
 {
     if 0 < line.count {
-        tell(to, line, text, out);
+        tell(rt, to, line, text, out);
     }
 }
 
 // As much as one read gives, so that a caller who waits for an answer has it.
-fn read_some(from: i32, chunk: &mut [u8]) -> usize
+fn read_some<R: Channels>(rt: &R, from: i32, chunk: &mut [u8]) -> usize
     ensures { result ≤ length chunk.old }
 {
-    let got = libc::read(from, chunk);
-    io::count(got, chunk)
+    channels::read_some(rt, from, chunk)
 }
 
 // A turn reads once and answers the lines that end there.
@@ -748,15 +755,23 @@ struct Read {
     ended: bool,
 }
 
-fn turn(from: i32, to: i32, line: Line, chunk: &mut [u8], text: &mut [u8], out: &mut [u8]) -> Read
+fn turn<R: Channels>(
+    rt: &R,
+    from: i32,
+    to: i32,
+    line: Line,
+    chunk: &mut [u8],
+    text: &mut [u8],
+    out: &mut [u8],
+) -> Read
     requires { line.count ≤ length text.old }
     ensures { result.line.count ≤ length text.old }
 {
-    let n = read_some(from, chunk);
+    let n = read_some(rt, from, chunk);
     if n == 0 {
         return Read { line, ended: true };
     }
-    let after = feed(&chunk[..n], to, line, text, out);
+    let after = feed(rt, &chunk[..n], to, line, text, out);
     Read {
         line: after,
         ended: false,
@@ -774,24 +789,31 @@ fn fewer(turns: u64, ended: bool) -> u64
     turns - 1
 }
 
-fn converse(from: i32, to: i32, chunk: &mut [u8], text: &mut [u8], out: &mut [u8]) {
+fn converse<R: Channels>(
+    rt: &R,
+    from: i32,
+    to: i32,
+    chunk: &mut [u8],
+    text: &mut [u8],
+    out: &mut [u8],
+) {
     let mut line = Line {
         count: 0,
         long: false,
     };
     let mut turns: u64 = 18446744073709551615;
     while 0 < turns {
-        let t = turn(from, to, line, chunk, text, out);
+        let t = turn(rt, from, to, line, chunk, text, out);
         line = t.line;
         turns = fewer(turns, t.ended);
     }
-    close(to, line, text, out);
+    close(rt, to, line, text, out);
 }
 
 // Answers each line that `from` gives, on `to`. A line has at most 1,048,576 letters, a list at most 65,536 words.
-pub fn serve(from: i32, to: i32) {
+pub fn serve<R: Channels>(rt: &R, from: i32, to: i32) {
     let mut chunk = [0u8; 65536];
     let mut text = [0u8; 1048576];
     let mut out = [0u8; 1048576];
-    converse(from, to, &mut chunk, &mut text, &mut out);
+    converse(rt, from, to, &mut chunk, &mut text, &mut out);
 }

@@ -1,11 +1,14 @@
-// The commands of rehearse on argument texts and two descriptors: answers go to `out`, refusals and complaints to `err`.
+// The commands of rehearse on argument texts and two channels: answers go to `out`, refusals and complaints to `err`.
 // The last line of `out` is `refused` where a rule refused, `error` where a command, an argument or a file was wrong, and neither where all went well.
 #![tactic(auto)]
 
 ghost use Rattle.std.specs.Prelude.{◌+◌, ◌*◌, ◌≤◌, ◌<◌, length};
 
 use arguments::Asked;
+use channels::Channels;
 use files::{DONE, ERROR, Got, REFUSED};
+use std::io;
+use std::rt::Files;
 use table::Clause;
 use traced::How;
 
@@ -43,8 +46,8 @@ struct Job {
     asked: Asked,
 }
 
-fn usage(to: i32) -> bool {
-    io::write_all(
+fn usage<R: Channels>(rt: &R, to: i32) -> io::Result<()> {
+    rt.send(
         to,
         b"rehearse check TABLE                      whether a loop table is right; if not, what to mend: the rule, the row, the clause
 rehearse run TABLE INPUT.. [OPTION..]     runs a table on its input words
@@ -79,11 +82,18 @@ fn put_refused(out: &mut [u8], path: &[u8], table: &[u32], number: u32) -> usize
     refused::put_refusal(out, path, table, clause)
 }
 
-fn refuse(err: i32, path: &[u8], text: &[u8], table: &[u32], number: u32) -> u32 {
-    files::note_odd(err, path, text, ANY_LINE);
-    let mut out = io::large_buffer();
+fn refuse<R: Channels>(
+    rt: &R,
+    err: i32,
+    path: &[u8],
+    text: &[u8],
+    table: &[u32],
+    number: u32,
+) -> u32 {
+    files::note_odd(rt, err, path, text, ANY_LINE);
+    let mut out = [0u8; 65536];
     let n = put_refused(&mut out, path, table, number);
-    io::write_all(err, &out[..n]);
+    channels::tell(rt, err, &out[..n]);
     REFUSED
 }
 
@@ -94,14 +104,14 @@ fn put_accepted(out: &mut [u8], path: &[u8]) -> usize
     text::put(out, n, b": accepted by rules 1 to 10\n")
 }
 
-fn check(job: Job, path: &[u8], text: &[u8], table: &[u32]) -> u32 {
+fn check<R: Channels>(rt: &R, job: Job, path: &[u8], text: &[u8], table: &[u32]) -> u32 {
     let checked = lowering::check_table(table);
     if checked.number != 0 {
-        return refuse(job.err, path, text, table, checked.number);
+        return refuse(rt, job.err, path, text, table, checked.number);
     }
-    let mut out = io::large_buffer();
+    let mut out = [0u8; 65536];
     let n = put_accepted(&mut out, path);
-    files::answer(job.out, job.err, &out[..n])
+    files::answer(rt, job.out, job.err, &out[..n])
 }
 
 // Sheets.
@@ -135,11 +145,19 @@ fn spare_of(table: &[u32], row: u32) -> u32 {
     0
 }
 
-fn refuse_sheet(err: i32, path: &[u8], text: &[u8], table: &[u32], number: u32, row: u32) -> u32 {
-    files::note_odd(err, path, text, ANY_LINE);
-    let mut out = io::large_buffer();
+fn refuse_sheet<R: Channels>(
+    rt: &R,
+    err: i32,
+    path: &[u8],
+    text: &[u8],
+    table: &[u32],
+    number: u32,
+    row: u32,
+) -> u32 {
+    files::note_odd(rt, err, path, text, ANY_LINE);
+    let mut out = [0u8; 65536];
     let n = refused::put_refusal(&mut out, path, table, sheet_clause(table, number, row));
-    io::write_all(err, &out[..n]);
+    channels::tell(rt, err, &out[..n]);
     REFUSED
 }
 
@@ -194,12 +212,20 @@ fn is_written(command: u32) -> bool {
 }
 
 // Writes a table that has a sheet: the sheet, or its words. A refusal leaves the text as it was, so that it is at hand for the note.
-fn write(job: Job, path: &[u8], letters: usize, table: &[u32], text: &mut [u8]) -> u32
+fn write<R: Channels>(
+    rt: &R,
+    job: Job,
+    path: &[u8],
+    letters: usize,
+    table: &[u32],
+    text: &mut [u8],
+) -> u32
     requires { letters ≤ length text.old }
 {
     let written = sheet_written::write_sheet(table, text);
     if written.number != 0 {
         return refuse_sheet(
+            rt,
             job.err,
             path,
             &text[..letters],
@@ -210,22 +236,31 @@ fn write(job: Job, path: &[u8], letters: usize, table: &[u32], text: &mut [u8]) 
     }
     if job.command == TABLE {
         let n = put_table(text, table);
-        return files::answer(job.out, job.err, &text[..n]);
+        return files::answer(rt, job.out, job.err, &text[..n]);
     }
     let n = least(written.written, text.len());
-    files::answer(job.out, job.err, &text[..n])
+    files::answer(rt, job.out, job.err, &text[..n])
 }
 
 // Graphs.
 
-fn list(job: Job, graph: &[u32], nodes: &[u32], wires: &[u32], out: &mut [u8]) -> u32 {
+fn list<R: Channels>(
+    rt: &R,
+    job: Job,
+    graph: &[u32],
+    nodes: &[u32],
+    wires: &[u32],
+    out: &mut [u8],
+) -> u32 {
     files::written(
-        listed::write_list(job.out, graph, nodes, wires, out),
+        rt,
+        listed::write_list(rt, job.out, graph, nodes, wires, out),
         job.err,
     )
 }
 
-fn draw(
+fn draw<R: Channels>(
+    rt: &R,
     job: Job,
     graph: &[u32],
     state: &[u32],
@@ -235,7 +270,8 @@ fn draw(
 ) -> u32 {
     let asked = job.asked;
     files::written(
-        listed::write_drawing(job.out, graph, state, nodes, wires, out, asked.signed),
+        rt,
+        listed::write_drawing(rt, job.out, graph, state, nodes, wires, out, asked.signed),
         job.err,
     )
 }
@@ -251,13 +287,20 @@ fn whole(count: usize) -> Got
 }
 
 // The order list: a file's, the nodes from the last to 0, or none.
-fn order_of(job: Job, line: &[u8], graph: &[u32], text: &mut [u8], order: &mut [u32]) -> Got
+fn order_of<R: Channels + Files>(
+    rt: &R,
+    job: Job,
+    line: &[u8],
+    graph: &[u32],
+    text: &mut [u8],
+    order: &mut [u32],
+) -> Got
     ensures { result.count ≤ length order.old }
 {
     let asked = job.asked;
     if asked.order != 0 {
         let path = arguments::argument(line, asked.order);
-        return files::read_file(job.err, path, false, text, order);
+        return files::read_file(rt, job.err, path, false, text, order);
     }
     if asked.reverse {
         return whole(rehearsal::reverse_order(graph, order));
@@ -265,7 +308,8 @@ fn order_of(job: Job, line: &[u8], graph: &[u32], text: &mut [u8], order: &mut [
     whole(0)
 }
 
-fn put_rehearsed(
+fn put_rehearsed<R: Channels>(
+    rt: &R,
     job: Job,
     inputs: &[u32],
     graph: &[u32],
@@ -286,6 +330,7 @@ fn put_rehearsed(
     };
     if job.command == DRAW {
         return rehearsal::draw_graph(
+            rt,
             graph,
             nodes,
             wires,
@@ -298,6 +343,7 @@ fn put_rehearsed(
         );
     }
     rehearsal::run_graph(
+        rt,
         graph,
         nodes,
         wires,
@@ -311,7 +357,8 @@ fn put_rehearsed(
 }
 
 // The reading of the table beside its run.
-fn hold(
+fn hold<R: Channels>(
+    rt: &R,
     job: Job,
     inputs: &[u32],
     table: &[u32],
@@ -326,23 +373,24 @@ fn hold(
     let held = readings::put_held(out, answer, graph, state, plain, &results, asked.signed);
     let n = held.count;
     if held.differs {
-        io::write_all(job.err, &out[..n]);
+        channels::tell(rt, job.err, &out[..n]);
         return ERROR;
     }
-    files::answer(job.out, job.err, &out[..n])
+    files::answer(rt, job.out, job.err, &out[..n])
 }
 
 // What a rehearsal told goes to its channel.
-fn tell(job: Job, refused: bool, text: &[u8]) -> u32 {
+fn tell<R: Channels>(rt: &R, job: Job, refused: bool, text: &[u8]) -> u32 {
     if refused {
-        io::write_all(job.err, text);
+        channels::tell(rt, job.err, text);
         return REFUSED;
     }
-    files::answer(job.out, job.err, text)
+    files::answer(rt, job.out, job.err, text)
 }
 
 // What follows an answer: above a drawing it stands as a comment, and a reading is told below it.
-fn follow(
+fn follow<R: Channels>(
+    rt: &R,
     job: Job,
     inputs: &[u32],
     table: &[u32],
@@ -355,15 +403,16 @@ fn follow(
 ) -> u32 {
     let asked = job.asked;
     if job.command == DRAW {
-        return draw(job, graph, state, nodes, wires, out);
+        return draw(rt, job, graph, state, nodes, wires, out);
     }
     if asked.both {
-        return hold(job, inputs, table, graph, state, answer, out);
+        return hold(rt, job, inputs, table, graph, state, answer, out);
     }
     DONE
 }
 
-fn rehearse_in(
+fn rehearse_in<R: Channels>(
+    rt: &R,
     job: Job,
     inputs: &[u32],
     table: &[u32],
@@ -374,11 +423,12 @@ fn rehearse_in(
     state: &mut [u32],
     out: &mut [u8],
 ) -> u32 {
-    let rehearsed = put_rehearsed(job, inputs, graph, nodes, wires, order, state, out);
+    let rehearsed = put_rehearsed(rt, job, inputs, graph, nodes, wires, order, state, out);
     let n = rehearsed.count;
-    let told = tell(job, rehearsed.refused, &out[..n]);
+    let told = tell(rt, job, rehearsed.refused, &out[..n]);
     if told == DONE {
         return follow(
+            rt,
             job,
             inputs,
             table,
@@ -393,7 +443,8 @@ fn rehearse_in(
     told
 }
 
-fn rehearse(
+fn rehearse<R: Channels>(
+    rt: &R,
     job: Job,
     inputs: &[u32],
     table: &[u32],
@@ -406,6 +457,7 @@ fn rehearse(
     let mut state = [0u32; 32768];
     let k = rehearsal::state_words(graph);
     rehearse_in(
+        rt,
         job,
         inputs,
         table,
@@ -418,7 +470,8 @@ fn rehearse(
     )
 }
 
-fn run(
+fn run<R: Channels + Files>(
+    rt: &R,
     job: Job,
     inputs: &[u32],
     line: &[u8],
@@ -429,15 +482,26 @@ fn run(
     text: &mut [u8],
 ) -> u32 {
     let mut order = [0u32; 65536];
-    let got = order_of(job, line, graph, text, &mut order);
+    let got = order_of(rt, job, line, graph, text, &mut order);
     if got.status == DONE {
         let n = got.count;
-        return rehearse(job, inputs, table, graph, nodes, wires, &order[..n], text);
+        return rehearse(
+            rt,
+            job,
+            inputs,
+            table,
+            graph,
+            nodes,
+            wires,
+            &order[..n],
+            text,
+        );
     }
     got.status
 }
 
-fn on_named(
+fn on_named<R: Channels + Files>(
+    rt: &R,
     job: Job,
     inputs: &[u32],
     line: &[u8],
@@ -449,18 +513,19 @@ fn on_named(
 ) -> u32 {
     let asked = job.asked;
     if job.command == LOWER {
-        return list(job, graph, nodes, wires, text);
+        return list(rt, job, graph, nodes, wires, text);
     }
     if job.command == DRAW {
         if asked.run {} else {
-            return draw(job, graph, &[], nodes, wires, text);
+            return draw(rt, job, graph, &[], nodes, wires, text);
         }
     }
-    run(job, inputs, line, table, graph, nodes, wires, text)
+    run(rt, job, inputs, line, table, graph, nodes, wires, text)
 }
 
 // The names of nodes and wires: three words for each of 4,096 and of 8,192. A table that was lowered has them.
-fn on_graph(
+fn on_graph<R: Channels + Files>(
+    rt: &R,
     job: Job,
     inputs: &[u32],
     line: &[u8],
@@ -472,14 +537,15 @@ fn on_graph(
     let mut wires = [0u32; 24576];
     let named = naming::name_graph(table, &mut nodes, &mut wires);
     if named.number != 0 {
-        return on_named(job, inputs, line, table, graph, &[], &[], text);
+        return on_named(rt, job, inputs, line, table, graph, &[], &[], text);
     }
-    on_named(job, inputs, line, table, graph, &nodes, &wires, text)
+    on_named(rt, job, inputs, line, table, graph, &nodes, &wires, text)
 }
 
 // Readings.
 
-fn read(
+fn read<R: Channels>(
+    rt: &R,
     job: Job,
     inputs: &[u32],
     path: &[u8],
@@ -494,16 +560,17 @@ fn read(
     let plain = engine::read_plain(table, inputs, &mut results, asked.turns);
     let number = readings::rows_refusal(plain);
     if number != 0 {
-        return refuse(job.err, path, &text[..letters], table, number);
+        return refuse(rt, job.err, path, &text[..letters], table, number);
     }
     let read = readings::put_read(text, table, inputs.len(), plain, &results, asked.signed);
     let n = read.count;
-    tell(job, read.refused, &text[..n])
+    tell(rt, job, read.refused, &text[..n])
 }
 
 // Tables. Once a table is accepted its text is not needed: its memory holds the order list's file, then the answer.
 
-fn lower(
+fn lower<R: Channels + Files>(
+    rt: &R,
     job: Job,
     inputs: &[u32],
     line: &[u8],
@@ -517,18 +584,19 @@ fn lower(
 {
     let lowered = lowering::lower(table, graph);
     if lowered.number != 0 {
-        return refuse(job.err, path, &text[..letters], table, lowered.number);
+        return refuse(rt, job.err, path, &text[..letters], table, lowered.number);
     }
     let n = lowered.written;
     if n <= graph.len() {
-        return on_graph(job, inputs, line, table, &graph[..n], text);
+        return on_graph(rt, job, inputs, line, table, &graph[..n], text);
     }
-    files::complain(job.err, path, b"the graph is too long");
+    files::complain(rt, job.err, path, b"the graph is too long");
     ERROR
 }
 
 // A graph has at most 4 + 2 * 512 + 512 + 7 * 4096 words.
-fn on_table(
+fn on_table<R: Channels + Files>(
+    rt: &R,
     job: Job,
     inputs: &[u32],
     line: &[u8],
@@ -540,19 +608,22 @@ fn on_table(
     requires { letters ≤ length text.old }
 {
     if job.command == CHECK {
-        return check(job, path, &text[..letters], table);
+        return check(rt, job, path, &text[..letters], table);
     }
     if is_written(job.command) {
-        return write(job, path, letters, table, text);
+        return write(rt, job, path, letters, table, text);
     }
     if job.command == READ {
-        return read(job, inputs, path, letters, table, text);
+        return read(rt, job, inputs, path, letters, table, text);
     }
     let mut graph = [0u32; 30212];
-    lower(job, inputs, line, path, letters, table, &mut graph, text)
+    lower(
+        rt, job, inputs, line, path, letters, table, &mut graph, text,
+    )
 }
 
-fn on_file(
+fn on_file<R: Channels + Files>(
+    rt: &R,
     job: Job,
     inputs: &[u32],
     line: &[u8],
@@ -560,21 +631,21 @@ fn on_file(
     text: &mut [u8],
     words: &mut [u32],
 ) -> u32 {
-    let got = files::read_file(job.err, path, true, text, words);
+    let got = files::read_file(rt, job.err, path, true, text, words);
     if got.status == DONE {
         let n = got.count;
-        return on_table(job, inputs, line, path, got.letters, &words[..n], text);
+        return on_table(rt, job, inputs, line, path, got.letters, &words[..n], text);
     }
     got.status
 }
 
 // The memory that all commands on a table share.
-fn on_argument(job: Job, inputs: &[u32], line: &[u8]) -> u32 {
+fn on_argument<R: Channels + Files>(rt: &R, job: Job, inputs: &[u32], line: &[u8]) -> u32 {
     let asked = job.asked;
     let path = arguments::argument(line, asked.table);
     let mut text = [0u8; 1048576];
     let mut words = [0u32; 65536];
-    on_file(job, inputs, line, path, &mut text, &mut words)
+    on_file(rt, job, inputs, line, path, &mut text, &mut words)
 }
 
 // Arguments.
@@ -647,18 +718,18 @@ fn fitting(command: u32, asked: Asked) -> Asked
 }
 
 // What is wrong, behind the argument that it is about.
-fn misused(err: i32, argument: &[u8], problem: u32) -> u32 {
-    let mut what = io::buffer();
+fn misused<R: Channels>(rt: &R, err: i32, argument: &[u8], problem: u32) -> u32 {
+    let mut what = [0u8; 4096];
     let n = arguments::put_problem(&mut what, 0, problem);
-    files::complain(err, argument, &what[..n]);
+    files::complain(rt, err, argument, &what[..n]);
     ERROR
 }
 
-fn ask(command: u32, line: &[u8], out: i32, err: i32) -> u32 {
+fn ask<R: Channels + Files>(rt: &R, command: u32, line: &[u8], out: i32, err: i32) -> u32 {
     let mut inputs = [0u32; 512];
     let asked = fitting(command, arguments::read(line, &mut inputs));
     if asked.problem != 0 {
-        return misused(err, arguments::argument(line, asked.at), asked.problem);
+        return misused(rt, err, arguments::argument(line, asked.at), asked.problem);
     }
     let n = asked.inputs;
     let job = Job {
@@ -667,7 +738,7 @@ fn ask(command: u32, line: &[u8], out: i32, err: i32) -> u32 {
         err,
         asked,
     };
-    on_argument(job, &inputs[..n], line)
+    on_argument(rt, job, &inputs[..n], line)
 }
 
 fn command_of(name: &[u8]) -> u32 {
@@ -695,45 +766,45 @@ fn command_of(name: &[u8]) -> u32 {
     0
 }
 
-fn perform(line: &[u8], out: i32, err: i32) -> u32 {
+fn perform<R: Channels + Files>(rt: &R, line: &[u8], out: i32, err: i32) -> u32 {
     let name = arguments::argument(line, 0);
     let command = command_of(name);
     if command == 0 {
-        files::complain(err, name, b"there is no such command");
-        usage(err);
+        files::complain(rt, err, name, b"there is no such command");
+        let _ = usage(rt, err);
         return ERROR;
     }
-    ask(command, line, out, err)
+    ask(rt, command, line, out, err)
 }
 
 // The last line, by which a script tells a refusal and an error from an answer.
-fn close(out: i32, status: u32) {
+fn close<R: Channels>(rt: &R, out: i32, status: u32) {
     match status {
         REFUSED => {
-            io::write_all(out, b"refused\n");
+            channels::tell(rt, out, b"refused\n");
         }
         ERROR => {
-            io::write_all(out, b"error\n");
+            channels::tell(rt, out, b"error\n");
         }
         _ => {}
     }
 }
 
 // Arguments for which there is no room.
-pub fn refuse_long(out: i32, err: i32) {
-    files::complain(err, b"rehearse", b"the arguments are too long");
-    close(out, ERROR);
+pub fn refuse_long<R: Channels>(rt: &R, out: i32, err: i32) {
+    files::complain(rt, err, b"rehearse", b"the arguments are too long");
+    close(rt, out, ERROR);
 }
 
 // Does what the arguments in a text ask.
-pub fn obey(line: &[u8], out: i32, err: i32) {
+pub fn obey<R: Channels + Files>(rt: &R, line: &[u8], out: i32, err: i32) {
     if arguments::asks_help(line) {
-        files::written(usage(out), err);
+        files::written(rt, usage(rt, out), err);
         return;
     }
     if text::same(arguments::argument(line, 0), b"calls") {
-        calls::serve(0, out);
+        calls::serve(rt, channels::INPUT, out);
         return;
     }
-    close(out, perform(line, out, err));
+    close(rt, out, perform(rt, line, out, err));
 }

@@ -3,6 +3,11 @@
 
 ghost use Rattle.std.specs.Prelude.{◌≤◌, length};
 
+use channels::Channels;
+use std::io::Read;
+use std::rt::Files;
+use std::{fs, io};
+
 // What a command comes to.
 
 pub const DONE: u32 = 0;
@@ -66,30 +71,32 @@ fn put_complaint(out: &mut [u8], about: &[u8], what: &[u8]) -> usize
 }
 
 // A line: what the complaint is about, a colon, and what is wrong.
-pub fn complain(err: i32, about: &[u8], what: &[u8]) {
-    let mut out = io::large_buffer();
+pub fn complain<R: Channels>(rt: &R, err: i32, about: &[u8], what: &[u8]) {
+    let mut out = [0u8; 65536];
     let n = put_complaint(&mut out, about, what);
-    io::write_all(err, &out[..n]);
+    channels::tell(rt, err, &out[..n]);
 }
 
 // A call about a file or a channel failed.
-fn fail(err: i32, about: &[u8], error: i32) {
-    let mut what = io::buffer();
-    let n = put_trouble(&mut what, 0, error);
-    complain(err, about, &what[..n]);
+fn fail<R: Channels>(rt: &R, err: i32, about: &[u8], error: io::Error) {
+    let mut what = [0u8; 4096];
+    let n = put_trouble(&mut what, 0, error.raw_os_error().unwrap_or(0));
+    complain(rt, err, about, &what[..n]);
 }
 
 // What a command that has written its answer comes to. An answer that could not be written, as on a full disk, is an error.
-pub fn written(fine: bool, err: i32) -> u32 {
-    if fine {
-        return DONE;
+pub fn written<R: Channels>(rt: &R, done: io::Result<()>, err: i32) -> u32 {
+    match done {
+        Ok(()) => DONE,
+        Err(error) => {
+            fail(rt, err, b"standard output", error);
+            ERROR
+        }
     }
-    fail(err, b"standard output", os::errno());
-    ERROR
 }
 
-pub fn answer(out: i32, err: i32, text: &[u8]) -> u32 {
-    written(io::write_all(out, text), err)
+pub fn answer<R: Channels>(rt: &R, out: i32, err: i32, text: &[u8]) -> u32 {
+    written(rt, rt.send(out, text), err)
 }
 
 // What became of a file, DONE where it was read; its letters, and its words.
@@ -111,50 +118,57 @@ fn nothing_got(status: u32) -> Got
 }
 
 // A line that has not the six words of a row moves the rows behind it, so it is told before what is wrong in line `before` or behind it.
-pub fn note_odd(err: i32, path: &[u8], text: &[u8], before: u64) {
+pub fn note_odd<R: Channels>(rt: &R, err: i32, path: &[u8], text: &[u8], before: u64) {
     let odd = typed::odd_line(text);
     if odd.line == 0 {
         return;
     }
     if odd.line < before {
-        let mut what = io::buffer();
+        let mut what = [0u8; 4096];
         let n = typed::put_odd(&mut what, 0, odd);
-        complain(err, path, &what[..n]);
+        complain(rt, err, path, &what[..n]);
     }
 }
 
-fn note_odd_before(err: i32, path: &[u8], text: &[u8], at: usize, rows: bool) {
+fn note_odd_before<R: Channels>(rt: &R, err: i32, path: &[u8], text: &[u8], at: usize, rows: bool) {
     if rows {
         let place = typed::place_of(text, at);
-        note_odd(err, path, text, place.line);
+        note_odd(rt, err, path, text, place.line);
     }
 }
 
 // A text that is no list of words.
-fn misread(err: i32, path: &[u8], text: &[u8], typed: typed::Typed, rows: bool) {
-    note_odd_before(err, path, text, typed.at, rows);
-    let mut what = io::buffer();
+fn misread<R: Channels>(
+    rt: &R,
+    err: i32,
+    path: &[u8],
+    text: &[u8],
+    typed: typed::Typed,
+    rows: bool,
+) {
+    note_odd_before(rt, err, path, text, typed.at, rows);
+    let mut what = [0u8; 4096];
     let n = typed::put_problem(&mut what, 0, text, typed, rows);
-    complain(err, path, &what[..n]);
+    complain(rt, err, path, &what[..n]);
 }
 
 // A text that is no sheet.
-fn misprinted(err: i32, path: &[u8], text: &[u8], at: usize)
+fn misprinted<R: Channels>(rt: &R, err: i32, path: &[u8], text: &[u8], at: usize)
     requires { at ≤ length text.now }
 {
-    let mut what = io::large_buffer();
+    let mut what = [0u8; 65536];
     let n = sheet_told::put_refusal(&mut what, path, text, at);
-    io::write_all(err, &what[..n]);
+    channels::tell(rt, err, &what[..n]);
 }
 
 // A sheet has at most 512 rows, so only TEXT refuses it where that many are lent.
-fn read_sheet(err: i32, path: &[u8], text: &[u8], words: &mut [u32]) -> Got
+fn read_sheet<R: Channels>(rt: &R, err: i32, path: &[u8], text: &[u8], words: &mut [u32]) -> Got
     ensures { (result.count ≤ length words.old) × (result.letters ≤ length text.now) }
 {
     let read = sheet_read::read_sheet(text, words);
     if read.number != 0 {
         if read.place <= text.len() {
-            misprinted(err, path, text, read.place);
+            misprinted(rt, err, path, text, read.place);
         }
         return nothing_got(REFUSED);
     }
@@ -169,17 +183,24 @@ fn read_sheet(err: i32, path: &[u8], text: &[u8], words: &mut [u32]) -> Got
     nothing_got(REFUSED)
 }
 
-fn read_text(err: i32, path: &[u8], rows: bool, text: &[u8], words: &mut [u32]) -> Got
+fn read_text<R: Channels>(
+    rt: &R,
+    err: i32,
+    path: &[u8],
+    rows: bool,
+    text: &[u8],
+    words: &mut [u32],
+) -> Got
     ensures { (result.count ≤ length words.old) × (result.letters ≤ length text.now) }
 {
     if rows {
         if sheet_told::is_sheet(text) {
-            return read_sheet(err, path, text, words);
+            return read_sheet(rt, err, path, text, words);
         }
     }
     let typed = typed::read(text, words, rows);
     if typed.problem != 0 {
-        misread(err, path, text, typed, rows);
+        misread(rt, err, path, text, typed, rows);
         return nothing_got(ERROR);
     }
     Got {
@@ -189,49 +210,93 @@ fn read_text(err: i32, path: &[u8], rows: bool, text: &[u8], words: &mut [u32]) 
     }
 }
 
-// What one read more gives behind a file that was read to its end, or as far as there is room: a count, or -1 where the file cannot be read, as a directory.
-fn read_on(fd: i32) -> isize {
-    let mut more = io::buffer();
-    libc::read(fd, &mut more)
+// Reads until the file ends, the text is full, or a read fails; how many letters there are.
+fn read_full<F: Read>(file: &mut F, text: &mut [u8]) -> usize
+    ensures { result ≤ length text.new }
+{
+    let mut done = 0;
+    while done < text.len() {
+        let n = file.read(&mut text[done..]).unwrap_or(0);
+        if n == 0 {
+            break;
+        }
+        done += n;
+    }
+    done
 }
 
-fn read_opened(
+// What one read more gives behind a file that was read to its end, or as far as there is room: a count, or why the file cannot be read, as a directory.
+fn read_on<F: Read>(file: &mut F) -> io::Result<usize> {
+    let mut more = [0u8; 4096];
+    file.read(&mut more)
+}
+
+fn read_opened<R: Channels, F: Read + Drop>(
+    rt: &R,
     err: i32,
     path: &[u8],
     rows: bool,
-    fd: i32,
+    mut file: F,
     text: &mut [u8],
     words: &mut [u32],
 ) -> Got
     ensures { (result.count ≤ length words.old) × (result.letters ≤ length text.old) }
 {
-    let n = io::read_full(fd, text);
-    let more = read_on(fd);
-    let error = os::errno();
-    libc::close(fd);
-    if more < 0 {
-        fail(err, path, error);
-        return nothing_got(ERROR);
+    let n = read_full(&mut file, text);
+    match read_on(&mut file) {
+        Err(error) => {
+            fail(rt, err, path, error);
+            nothing_got(ERROR)
+        }
+        Ok(0) => read_text(rt, err, path, rows, &text[..n], words),
+        Ok(_) => {
+            complain(
+                rt,
+                err,
+                path,
+                b"the file has more bytes than the 1,048,576 that there is room for",
+            );
+            nothing_got(ERROR)
+        }
     }
-    if 0 < more {
-        complain(
-            err,
-            path,
-            b"the file has more bytes than the 1,048,576 that there is room for",
-        );
-        return nothing_got(ERROR);
+}
+
+fn read_named<R: Channels + Files>(
+    rt: &R,
+    err: i32,
+    path: &[u8],
+    rows: bool,
+    name: &str,
+    text: &mut [u8],
+    words: &mut [u32],
+) -> Got
+    ensures { (result.count ≤ length words.old) × (result.letters ≤ length text.old) }
+{
+    match fs::open(rt, name) {
+        Ok(file) => read_opened(rt, err, path, rows, file, text, words),
+        Err(error) => {
+            fail(rt, err, path, error);
+            nothing_got(ERROR)
+        }
     }
-    read_text(err, path, rows, &text[..n], words)
 }
 
 // Reads a file's words. `rows` says that it is a table's: it may be a sheet, a constant may be below 0, and the place of what is wrong is told by row and word too.
-pub fn read_file(err: i32, path: &[u8], rows: bool, text: &mut [u8], words: &mut [u32]) -> Got
+pub fn read_file<R: Channels + Files>(
+    rt: &R,
+    err: i32,
+    path: &[u8],
+    rows: bool,
+    text: &mut [u8],
+    words: &mut [u32],
+) -> Got
     ensures { (result.count ≤ length words.old) × (result.letters ≤ length text.old) }
 {
-    let fd = os::open_read(path);
-    if fd < 0 {
-        fail(err, path, os::errno());
-        return nothing_got(ERROR);
+    match str::from_utf8(path) {
+        Ok(name) => read_named(rt, err, path, rows, name, text, words),
+        Err(_) => {
+            complain(rt, err, path, b"a file's name has to be UTF-8");
+            nothing_got(ERROR)
+        }
     }
-    read_opened(err, path, rows, fd, text, words)
 }

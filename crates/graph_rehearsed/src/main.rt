@@ -4,10 +4,11 @@
 
 ghost use Rattle.std.specs.Prelude.{◌≤◌};
 
-use libc::STDOUT_FILENO;
+use channels::{Channels, INPUT, OUTPUT};
 use traced::How;
 
-fn rehearse(
+fn rehearse<R: Channels>(
+    rt: &R,
     graph: &[u32],
     nodes: &[u32],
     wires: &[u32],
@@ -20,11 +21,12 @@ fn rehearse(
     let how = How {
         trace,
         signed,
-        to: STDOUT_FILENO,
-        err: STDOUT_FILENO,
+        to: OUTPUT,
+        err: OUTPUT,
     };
     let mut out = io::large_buffer();
     let told = rehearsal::run_graph(
+        rt,
         graph,
         nodes,
         wires,
@@ -36,10 +38,11 @@ fn rehearse(
         &mut out,
     );
     let n = told.count;
-    io::write_all(STDOUT_FILENO, &out[..n]);
+    channels::tell(rt, OUTPUT, &out[..n]);
 }
 
-fn rehearse_thrice(
+fn rehearse_thrice<R: Channels>(
+    rt: &R,
     graph: &[u32],
     nodes: &[u32],
     wires: &[u32],
@@ -47,12 +50,13 @@ fn rehearse_thrice(
     state: &mut [u32],
     signed: bool,
 ) {
-    rehearse(graph, nodes, wires, inputs, state, 1000, false, signed);
-    rehearse(graph, nodes, wires, inputs, state, 1000, true, signed);
-    rehearse(graph, nodes, wires, inputs, state, 30, false, signed);
+    rehearse(rt, graph, nodes, wires, inputs, state, 1000, false, signed);
+    rehearse(rt, graph, nodes, wires, inputs, state, 1000, true, signed);
+    rehearse(rt, graph, nodes, wires, inputs, state, 30, false, signed);
 }
 
-fn rehearse_named(
+fn rehearse_named<R: Channels>(
+    rt: &R,
     text: &[u8],
     from: usize,
     graph: &[u32],
@@ -68,11 +72,11 @@ fn rehearse_named(
     let w = text::words(text::part(text, from + 4), &mut wires);
     let i = n.count;
     let k = w.count;
-    rehearse_thrice(graph, &nodes[..i], &wires[..k], inputs, state, signed);
+    rehearse_thrice(rt, graph, &nodes[..i], &wires[..k], inputs, state, signed);
 }
 
 // The graph whose first part is part `from` of the text.
-fn rehearse_text(text: &[u8], from: usize, signed: bool)
+fn rehearse_text<R: Channels>(rt: &R, text: &[u8], from: usize, signed: bool)
     requires { from ≤ 5 }
 {
     let mut graph = [0u32; 4096];
@@ -85,6 +89,7 @@ fn rehearse_text(text: &[u8], from: usize, signed: bool)
     let m = i.count;
     let k = s.count;
     rehearse_named(
+        rt,
         text,
         from,
         &graph[..n],
@@ -94,9 +99,9 @@ fn rehearse_text(text: &[u8], from: usize, signed: bool)
     );
 }
 
-fn main() {
+fn main(rt: HostRuntime) {
     let mut text = io::large_buffer();
-    let n = io::read_full(0, &mut text);
-    rehearse_text(&text[..n], 0, false);
-    rehearse_text(&text[..n], 5, true);
+    let n = channels::read_full(&rt, INPUT, &mut text);
+    rehearse_text(&rt, &text[..n], 0, false);
+    rehearse_text(&rt, &text[..n], 5, true);
 }

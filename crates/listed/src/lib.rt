@@ -4,6 +4,9 @@
 
 ghost use Rattle.std.specs.Prelude.{◌≤◌, ◌<◌, length};
 
+use channels::Channels;
+use std::io;
+
 // `count` words from `from` on.
 fn put_some(out: &mut [u8], at: usize, graph: &[u32], from: usize, count: usize) -> usize
     requires { (at ≤ length out.old) × (from ≤ 100000) × (count ≤ 100000) }
@@ -212,24 +215,33 @@ fn put_part(
     put_node(out, 0, graph, nodes, wires, i)
 }
 
-fn write_above(to: i32, kind: Kind, graph: &[u32], wires: &[u32], out: &mut [u8]) -> bool {
+fn write_above<R: Channels>(
+    rt: &R,
+    to: i32,
+    kind: Kind,
+    graph: &[u32],
+    wires: &[u32],
+    out: &mut [u8],
+) -> io::Result<()> {
     let n = put_above(out, kind, graph, wires);
-    io::write_all(to, &out[..n])
+    rt.send(to, &out[..n])
 }
 
-fn write_below(
+fn write_below<R: Channels>(
+    rt: &R,
     to: i32,
     kind: Kind,
     graph: &[u32],
     state: &[u32],
     wires: &[u32],
     out: &mut [u8],
-) -> bool {
+) -> io::Result<()> {
     let n = put_below(out, kind, graph, state, wires);
-    io::write_all(to, &out[..n])
+    rt.send(to, &out[..n])
 }
 
-fn write_part(
+fn write_part<R: Channels>(
+    rt: &R,
     to: i32,
     kind: Kind,
     graph: &[u32],
@@ -238,14 +250,15 @@ fn write_part(
     wires: &[u32],
     out: &mut [u8],
     i: usize,
-) -> bool
+) -> io::Result<()>
     requires { i ≤ 8192 }
 {
     let n = put_part(out, kind, graph, state, nodes, wires, i);
-    io::write_all(to, &out[..n])
+    rt.send(to, &out[..n])
 }
 
-fn write_parts(
+fn write_parts<R: Channels>(
+    rt: &R,
     to: i32,
     kind: Kind,
     graph: &[u32],
@@ -253,20 +266,18 @@ fn write_parts(
     nodes: &[u32],
     wires: &[u32],
     out: &mut [u8],
-) -> bool {
+) -> io::Result<()> {
     let count = drawn::count_at(graph, 0);
     let mut i: usize = 0;
     while i < count {
-        if write_part(to, kind, graph, state, nodes, wires, out, i) {
-            i += 1;
-        } else {
-            return false;
-        }
+        write_part(rt, to, kind, graph, state, nodes, wires, out, i)?;
+        i += 1;
     }
-    true
+    Ok(())
 }
 
-fn write_graph(
+fn write_graph<R: Channels>(
+    rt: &R,
     to: i32,
     kind: Kind,
     graph: &[u32],
@@ -274,27 +285,31 @@ fn write_graph(
     nodes: &[u32],
     wires: &[u32],
     out: &mut [u8],
-) -> bool {
-    if write_above(to, kind, graph, wires, out) {} else {
-        return false;
-    }
-    if write_parts(to, kind, graph, state, nodes, wires, out) {} else {
-        return false;
-    }
-    write_below(to, kind, graph, state, wires, out)
+) -> io::Result<()> {
+    write_above(rt, to, kind, graph, wires, out)?;
+    write_parts(rt, to, kind, graph, state, nodes, wires, out)?;
+    write_below(rt, to, kind, graph, state, wires, out)
 }
 
-// Writes a graph's words with what they say; whether that could be done. `nodes` and `wires` are the names of `roles`.
-pub fn write_list(to: i32, graph: &[u32], nodes: &[u32], wires: &[u32], out: &mut [u8]) -> bool {
+// Writes a graph's words with what they say, or fails as the channel does. `nodes` and `wires` are the names of `roles`.
+pub fn write_list<R: Channels>(
+    rt: &R,
+    to: i32,
+    graph: &[u32],
+    nodes: &[u32],
+    wires: &[u32],
+    out: &mut [u8],
+) -> io::Result<()> {
     let kind = Kind {
         drawing: false,
         signed: false,
     };
-    write_graph(to, kind, graph, &[], nodes, wires, out)
+    write_graph(rt, to, kind, graph, &[], nodes, wires, out)
 }
 
 // Writes a graph's drawing, with the tokens of a state; `signed` with the signs of tokens and constants.
-pub fn write_drawing(
+pub fn write_drawing<R: Channels>(
+    rt: &R,
     to: i32,
     graph: &[u32],
     state: &[u32],
@@ -302,10 +317,10 @@ pub fn write_drawing(
     wires: &[u32],
     out: &mut [u8],
     signed: bool,
-) -> bool {
+) -> io::Result<()> {
     let kind = Kind {
         drawing: true,
         signed,
     };
-    write_graph(to, kind, graph, state, nodes, wires, out)
+    write_graph(rt, to, kind, graph, state, nodes, wires, out)
 }

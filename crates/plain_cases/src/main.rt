@@ -1,8 +1,8 @@
 // The reading of a table without its graph, called as standard input lists it: the register's tables, allowances around the turns of a reading, zero steps, every refusal, the limits.
 #![tactic(auto)]
 
-use libc::STDOUT_FILENO;
+use channels::{INPUT, OUTPUT};
 
-fn main() {
-    calls::serve(0, STDOUT_FILENO);
+fn main(rt: HostRuntime) {
+    calls::serve(&rt, INPUT, OUTPUT);
 }

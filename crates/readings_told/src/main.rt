@@ -4,8 +4,8 @@
 
 ghost use Rattle.std.specs.Prelude.{◌≤◌, ◌<◌};
 
+use channels::{Channels, INPUT, OUTPUT};
 use engine::Plain;
-use libc::STDOUT_FILENO;
 
 fn plain_of(answer: u32, row: u32, turns: u32) -> Plain {
     match answer {
@@ -16,14 +16,29 @@ fn plain_of(answer: u32, row: u32, turns: u32) -> Plain {
     }
 }
 
-fn tell(answer: u32, plain: Plain, graph: &[u32], state: &[u32], results: &[u32], signed: bool) {
+fn tell<R: Channels>(
+    rt: &R,
+    answer: u32,
+    plain: Plain,
+    graph: &[u32],
+    state: &[u32],
+    results: &[u32],
+    signed: bool,
+) {
     let mut out = io::large_buffer();
     let held = readings::put_held(&mut out, answer, graph, state, plain, results, signed);
     let n = held.count;
-    io::write_all(STDOUT_FILENO, &out[..n]);
+    channels::tell(rt, OUTPUT, &out[..n]);
 }
 
-fn tell_ends(text: &[u8], at: usize, graph: &[u32], state: &[u32], results: &[u32])
+fn tell_ends<R: Channels>(
+    rt: &R,
+    text: &[u8],
+    at: usize,
+    graph: &[u32],
+    state: &[u32],
+    results: &[u32],
+)
     requires { at < 1000 }
 {
     let mut run = [0u32; 2];
@@ -31,10 +46,10 @@ fn tell_ends(text: &[u8], at: usize, graph: &[u32], state: &[u32], results: &[u3
     text::words(text::part(text, at), &mut run);
     text::words(text::part(text, at + 1), &mut reading);
     let plain = plain_of(reading[0], reading[1], reading[2]);
-    tell(run[0], plain, graph, state, results, run[1] == 1);
+    tell(rt, run[0], plain, graph, state, results, run[1] == 1);
 }
 
-fn tell_case(text: &[u8], at: usize)
+fn tell_case<R: Channels>(rt: &R, text: &[u8], at: usize)
     requires { at < 1000 }
 {
     let mut graph = [0u32; 256];
@@ -46,7 +61,7 @@ fn tell_case(text: &[u8], at: usize)
     let n = g.count;
     let k = s.count;
     let m = r.count;
-    tell_ends(text, at, &graph[..n], &state[..k], &results[..m]);
+    tell_ends(rt, text, at, &graph[..n], &state[..k], &results[..m]);
 }
 
 fn least(a: usize, b: usize) -> usize
@@ -58,17 +73,17 @@ fn least(a: usize, b: usize) -> usize
     b
 }
 
-fn tell_cases(text: &[u8]) {
+fn tell_cases<R: Channels>(rt: &R, text: &[u8]) {
     let cases = least(text::marks(text, b';') / 5, 100);
     let mut k: usize = 0;
     while k < cases {
-        tell_case(text, 5 * k);
+        tell_case(rt, text, 5 * k);
         k += 1;
     }
 }
 
-fn main() {
+fn main(rt: HostRuntime) {
     let mut text = io::large_buffer();
-    let n = io::read_full(0, &mut text);
-    tell_cases(&text[..n]);
+    let n = channels::read_full(&rt, INPUT, &mut text);
+    tell_cases(&rt, &text[..n]);
 }

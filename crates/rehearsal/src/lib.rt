@@ -3,6 +3,7 @@
 
 ghost use Rattle.std.specs.Prelude.{◌≤◌, ◌+◌, length};
 
+use channels::Channels;
 use run::Ran;
 use traced::How;
 
@@ -240,7 +241,8 @@ fn answer_of(ran: Ran) -> u32 {
 
 // Loads and runs a graph in the lent state, which has the length that the graph asks, told as `how` says, and tells the answer, the firings, the counts and the results.
 // `nodes` and `wires` are the names of `roles`; without them rows and roles are left out.
-pub fn run_graph(
+pub fn run_graph<R: Channels>(
+    rt: &R,
     graph: &[u32],
     nodes: &[u32],
     wires: &[u32],
@@ -257,7 +259,7 @@ pub fn run_graph(
     if number != 0 {
         return put_refused(out, number, graph, inputs.len());
     }
-    let ran = traced::run_told(graph, nodes, wires, state, order, allowance, how);
+    let ran = traced::run_told(rt, graph, nodes, wires, state, order, allowance, how);
     put_rested(out, graph, nodes, wires, state, ran, how.signed)
 }
 
@@ -287,7 +289,8 @@ fn put_rested(
 }
 
 // Loads and runs a graph that is to be drawn with the tokens that stand on its wires then. The answer is told as a comment above the drawing.
-pub fn draw_graph(
+pub fn draw_graph<R: Channels>(
+    rt: &R,
     graph: &[u32],
     nodes: &[u32],
     wires: &[u32],
@@ -304,7 +307,7 @@ pub fn draw_graph(
     if number != 0 {
         return put_refused(out, number, graph, inputs.len());
     }
-    let ran = traced::run_told(graph, nodes, wires, state, order, allowance, how);
+    let ran = traced::run_told(rt, graph, nodes, wires, state, order, allowance, how);
     put_drawn(out, graph, nodes, ran)
 }
 

@@ -4,7 +4,8 @@
 
 ghost use Rattle.std.specs.Prelude.{◌≤◌, ◌<◌, length};
 
-use libc::STDOUT_FILENO;
+use channels::{Channels, INPUT, OUTPUT};
+use std::rt::Files;
 
 fn spaced(b: u8) -> u8 {
     if b == b' ' {
@@ -26,53 +27,53 @@ fn put_arguments(out: &mut [u8], line: &[u8]) -> usize
     text::put_letter(out, n, 0)
 }
 
-fn show(line: &[u8]) {
-    io::write_all(STDOUT_FILENO, b"$ rehearse ");
-    io::write_all(STDOUT_FILENO, line);
-    io::write_all(STDOUT_FILENO, b"\n");
+fn show<R: Channels>(rt: &R, line: &[u8]) {
+    channels::tell(rt, OUTPUT, b"$ rehearse ");
+    channels::tell(rt, OUTPUT, line);
+    channels::tell(rt, OUTPUT, b"\n");
 }
 
-fn obey(line: &[u8]) {
-    show(line);
+fn obey<R: Channels + Files>(rt: &R, line: &[u8]) {
+    show(rt, line);
     let mut text = io::buffer();
     let n = put_arguments(&mut text, line);
-    commands::obey(&text[..n], STDOUT_FILENO, STDOUT_FILENO);
+    commands::obey(rt, &text[..n], OUTPUT, OUTPUT);
 }
 
-fn try_line(line: &[u8]) {
+fn try_line<R: Channels + Files>(rt: &R, line: &[u8]) {
     if line.len() == 0 {
         return;
     }
     if line[0] == b'#' {
-        io::write_all(STDOUT_FILENO, line);
-        io::write_all(STDOUT_FILENO, b"\n");
+        channels::tell(rt, OUTPUT, line);
+        channels::tell(rt, OUTPUT, b"\n");
         return;
     }
-    obey(line);
+    obey(rt, line);
 }
 
 // Tries the line that starts at `from`; where the next one starts.
-fn try_one(text: &[u8], from: usize) -> usize
+fn try_one<R: Channels + Files>(rt: &R, text: &[u8], from: usize) -> usize
     requires { from < length text.now }
     ensures { (from < result) × (result ≤ length text.now) }
 {
     let e = text::end_of(text, from, b'\n');
-    try_line(&text[from..e]);
+    try_line(rt, &text[from..e]);
     if e < text.len() {
         return e + 1;
     }
     e
 }
 
-fn try_lines(text: &[u8]) {
+fn try_lines<R: Channels + Files>(rt: &R, text: &[u8]) {
     let mut at: usize = 0;
     while at < text.len() {
-        at = try_one(text, at);
+        at = try_one(rt, text, at);
     }
 }
 
-fn main() {
+fn main(rt: HostRuntime) {
     let mut text = io::large_buffer();
-    let n = io::read_full(0, &mut text);
-    try_lines(&text[..n]);
+    let n = channels::read_full(&rt, INPUT, &mut text);
+    try_lines(&rt, &text[..n]);
 }

@@ -4,7 +4,7 @@
 
 ghost use Rattle.std.specs.Prelude.{◌≤◌, length};
 
-use libc::STDOUT_FILENO;
+use channels::{Channels, INPUT, OUTPUT};
 
 const FOR: u32 = 4;
 
@@ -84,15 +84,15 @@ fn put_largest(out: &mut [u8], sheet: &mut [u8]) -> usize
 }
 
 // The bytes lent are just enough.
-fn tell_largest() {
+fn tell_largest<R: Channels>(rt: &R) {
     let mut sheet = [0u8; 41883];
     let mut out = io::buffer();
     let n = put_largest(&mut out, &mut sheet);
     let m = put_read(&mut out, n, &sheet);
-    io::write_all(STDOUT_FILENO, &out[..m]);
+    channels::tell(rt, OUTPUT, &out[..m]);
 }
 
-fn main() {
-    calls::serve(0, STDOUT_FILENO);
-    tell_largest();
+fn main(rt: HostRuntime) {
+    calls::serve(&rt, INPUT, OUTPUT);
+    tell_largest(&rt);
 }

@@ -4,7 +4,7 @@
 
 ghost use Rattle.std.specs.Prelude.{◌≤◌, length};
 
-use libc::STDOUT_FILENO;
+use channels::{Channels, INPUT, OUTPUT};
 
 // Where the reading of a line stands: the words so far, and whether the name is behind.
 #[derive(Clone, Copy)]
@@ -21,18 +21,18 @@ fn value(letter: u8) -> u32 {
     }
 }
 
-fn tell(table: &[u32]) {
+fn tell<R: Channels>(rt: &R, table: &[u32]) {
     let a = table::check_rows(table);
-    io::write_all(STDOUT_FILENO, b" ");
-    io::print_decimal(STDOUT_FILENO, a.number as u64);
-    io::write_all(STDOUT_FILENO, b" ");
-    io::print_decimal(STDOUT_FILENO, a.row as u64);
-    io::write_all(STDOUT_FILENO, b"\n");
+    let mut out = [0u8; 64];
+    let n = text::put_next(&mut out, 0, a.number as u64);
+    let m = text::put_next(&mut out, n, a.row as u64);
+    let k = text::put_letter(&mut out, m, b'\n');
+    channels::tell(rt, OUTPUT, &out[..k]);
 }
 
-fn echo(letter: u8) {
+fn echo<R: Channels>(rt: &R, letter: u8) {
     let one = [letter];
-    io::write_all(STDOUT_FILENO, &one);
+    channels::tell(rt, OUTPUT, &one);
 }
 
 // One word more, unless the letter is a space or there is no room; the count behind it.
@@ -50,14 +50,14 @@ fn keep(words: &mut [u32], n: usize, letter: u8) -> usize
 }
 
 // One letter of a line. The name is passed on; the line's end tells of the table.
-fn read(words: &mut [u32], line: Line, letter: u8) -> Line
+fn read<R: Channels>(rt: &R, words: &mut [u32], line: Line, letter: u8) -> Line
     requires { line.words ≤ length words.old }
     ensures { result.words ≤ length words.old }
 {
     let n = line.words;
     if line.named {
         if letter == 10 {
-            tell(&words[..n]);
+            tell(rt, &words[..n]);
             return Line {
                 words: 0,
                 named: false,
@@ -68,28 +68,28 @@ fn read(words: &mut [u32], line: Line, letter: u8) -> Line
             named: true,
         };
     }
-    echo(letter);
+    echo(rt, letter);
     Line {
         words: 0,
         named: letter == 58,
     }
 }
 
-fn tables(text: &[u8], words: &mut [u32]) {
+fn tables<R: Channels>(rt: &R, text: &[u8], words: &mut [u32]) {
     let mut line = Line {
         words: 0,
         named: false,
     };
     let mut i: usize = 0;
     while i < text.len() {
-        line = read(words, line, text[i]);
+        line = read(rt, words, line, text[i]);
         i += 1;
     }
 }
 
-fn main() {
+fn main(rt: HostRuntime) {
     let mut text = io::large_buffer();
     let mut words = [0u32; 4096];
-    let n = io::read_full(0, &mut text);
-    tables(&text[..n], &mut words);
+    let n = channels::read_full(&rt, INPUT, &mut text);
+    tables(&rt, &text[..n], &mut words);
 }

@@ -10,6 +10,7 @@ ghost use Rattle.state.specs.Run.{turn, follow, sweep, finish};
 ghost use Rattle.run.specs.Numbers.{RunAnswer};
 ghost use Rattle.run.specs.Entry.{at, Runs, Below};
 
+use channels::Channels;
 use run::Ran;
 
 const ABSENT: u32 = 4294967295;
@@ -203,7 +204,8 @@ fn put_firing(
     text::put_letter(out, c, b'\n')
 }
 
-fn tell(
+fn tell<R: Channels>(
+    rt: &R,
     how: How,
     number: u64,
     graph: &[u32],
@@ -219,13 +221,14 @@ fn tell(
     let n = put_firing(
         &mut out, number, graph, nodes, wires, node, before, after, how.signed,
     );
-    io::write_all(how.to, &out[..n]);
+    channels::tell(rt, how.to, &out[..n]);
 }
 
 // The run told firing by firing.
 
 // Node i's turn: what is left of the allowance. The firing is told with its number.
-fn turn_of(
+fn turn_of<R: Channels>(
+    rt: &R,
     graph: &[u32],
     nodes: &[u32],
     wires: &[u32],
@@ -245,6 +248,7 @@ fn turn_of(
     if firing::fire_node(graph, state, i) {
         let after = tokens_of(graph, state, i);
         tell(
+            rt,
             how,
             allowance - left + 1,
             graph,
@@ -259,7 +263,8 @@ fn turn_of(
     left
 }
 
-fn follow_told(
+fn follow_told<R: Channels>(
+    rt: &R,
     graph: &[u32],
     nodes: &[u32],
     wires: &[u32],
@@ -275,6 +280,7 @@ fn follow_told(
     let mut k: usize = 0;
     while k < order.len() {
         left = turn_of(
+            rt,
             graph,
             nodes,
             wires,
@@ -289,7 +295,8 @@ fn follow_told(
     left
 }
 
-fn sweep_told(
+fn sweep_told<R: Channels>(
+    rt: &R,
     graph: &[u32],
     nodes: &[u32],
     wires: &[u32],
@@ -305,7 +312,7 @@ fn sweep_told(
     let mut left = given;
     let mut i: usize = 0;
     while i < count {
-        left = turn_of(graph, nodes, wires, state, i, left, allowance, how);
+        left = turn_of(rt, graph, nodes, wires, state, i, left, allowance, how);
         i += 1;
     }
     left
@@ -314,7 +321,8 @@ fn sweep_told(
 // The run, told or not. What is not traced goes through the run's own turns, so that it takes no longer.
 
 // The caller's list once.
-fn follow_order(
+fn follow_order<R: Channels>(
+    rt: &R,
     graph: &[u32],
     nodes: &[u32],
     wires: &[u32],
@@ -327,13 +335,14 @@ fn follow_order(
     ensures followed { (at state.new result ≡ follow (net_of graph.now) order.now (at state.old allowance)) × (result ≤ allowance) }
 {
     if how.trace {
-        return follow_told(graph, nodes, wires, state, order, allowance, how);
+        return follow_told(rt, graph, nodes, wires, state, order, allowance, how);
     }
     run::follow_order(graph, state, order, allowance)
 }
 
 // One sweep from node 0 up.
-fn sweep_once(
+fn sweep_once<R: Channels>(
+    rt: &R,
     graph: &[u32],
     nodes: &[u32],
     wires: &[u32],
@@ -346,31 +355,32 @@ fn sweep_once(
     ensures swept { (at state.new result ≡ sweep (net_of graph.now) (node_count graph.now) (at state.old given)) × (result ≤ given) }
 {
     if how.trace {
-        return sweep_told(graph, nodes, wires, state, given, allowance, how);
+        return sweep_told(rt, graph, nodes, wires, state, given, allowance, how);
     }
     run::sweep_once(graph, state, given)
 }
 
-fn tell_firings(err: i32, firings: u64) {
+fn tell_firings<R: Channels>(rt: &R, err: i32, firings: u64) {
     let mut out = io::buffer();
     let a = text::put_number(&mut out, 0, firings);
     let b = text::put(&mut out, a, b" firings so far\n");
-    io::write_all(err, &out[..b]);
+    channels::tell(rt, err, &out[..b]);
 }
 
 // The turns since the firings were last told, after one sweep more.
-fn note(graph: &[u32], turns: u64, firings: u64, how: How) -> u64 {
+fn note<R: Channels>(rt: &R, graph: &[u32], turns: u64, firings: u64, how: How) -> u64 {
     if turns < MANY {
         return turns + drawn::count_at(graph, 0) as u64;
     }
     if how.trace {} else {
-        tell_firings(how.err, firings);
+        tell_firings(rt, how.err, firings);
     }
     0
 }
 
 // Sweeps until one fires nothing.
-fn sweep_all(
+fn sweep_all<R: Channels>(
+    rt: &R,
     graph: &[u32],
     nodes: &[u32],
     wires: &[u32],
@@ -386,17 +396,18 @@ fn sweep_all(
     let mut turns: u64 = 0;
     loop {
         let before = left;
-        left = sweep_once(graph, nodes, wires, state, before, allowance, how);
+        left = sweep_once(rt, graph, nodes, wires, state, before, allowance, how);
         if left == before {
             break;
         }
-        turns = note(graph, turns, allowance - left, how);
+        turns = note(rt, graph, turns, allowance - left, how);
     }
     left
 }
 
 // A run of the lent state, told as `how` says. It promises what `run::run` promises, so that a run and what is told of it agree.
-pub fn run_told(
+pub fn run_told<R: Channels>(
+    rt: &R,
     graph: &[u32],
     nodes: &[u32],
     wires: &[u32],
@@ -414,7 +425,7 @@ pub fn run_told(
     if run::order_below(graph, order) {} else {
         return Ran::Refused(ORDER);
     }
-    let followed = follow_order(graph, nodes, wires, state, order, allowance, how);
-    let left = sweep_all(graph, nodes, wires, state, followed, allowance, how);
+    let followed = follow_order(rt, graph, nodes, wires, state, order, allowance, how);
+    let left = sweep_all(rt, graph, nodes, wires, state, followed, allowance, how);
     run::ended(graph, state, allowance - left)
 }
