@@ -39,7 +39,8 @@ use Rattle.reading.specs.Reading.{Opening, Outcome, ended, zero_step, read}
 use Rattle.reading.specs.Outcome.{Reads, one_outcome}
 use Rattle.reading.specs.Within.{turns_made, openings_of}
 use Rattle.engine.specs.Answers.{PlainAnswer}
-use Rattle.engine.specs.Against.{Fit, results_in, ended_is_the_reading, the_reading_is_ended, zero_step_is_the_reading, the_reading_is_a_zero_step, spent_is_the_rest, too_few_are_spent, endless_is_spent, refused_is_refused, fit_is_not_refused}
+use Rattle.engine.specs.Against.{Fit, results_in, fit_is_not_refused}
+use Rattle.engine.proofs.Against.{ended_is_the_reading, the_reading_is_ended, zero_step_is_the_reading, the_reading_is_a_zero_step, spent_is_the_rest, too_few_are_spent, endless_is_spent, refused_is_refused}
 use Rattle.engine.specs.Cases.{five_turns_end}
 use Rattle.engine.specs.declared.Plain.{Plain}
 use Rattle.engine.specs.declared.Plain.TheVariants.{Refused, Ended, ZeroStep, Spent}
