@@ -1,9 +1,9 @@
 -- WHICH WIRES ARE USED: by what feeds each input.
 --
 --   Used, Fed             a wire has a use; what a used wire is
---   used-fed              a wire that is used is one of these
---   value-used, value-unused          a value's wire at home is used exactly if some row names the value
---   copy-used             a copy is used
+--   used_fed              a wire that is used is one of these
+--   value_used, value-unused          a value's wire at home is used exactly if some row names the value
+--   copy_used             a copy is used
 --
 -- Assumes nothing.
 use Rattle.std.specs.Prelude.{ℕ, zero, suc, ◌<◌, ◌≤◌, ◌≡◌, ◌≢◌, ◌⊎◌, Bool, cond, List, eqb}
