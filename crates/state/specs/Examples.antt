@@ -1,7 +1,7 @@
 -- The sum graph, computed by these definitions: loaded, legal, run by sweeps, with an order list, with an allowance one short, and
 -- with a zero step.
 -- Assumes nothing.
-use Rattle.std.specs.Prelude.{ℕ, true, false, ◌≡◌, refl, List, [], ◌∷◌, set}
+use Rattle.std.specs.Prelude.{ℕ, true, ◌≡◌, refl, List, [], ◌∷◌, set}
 use Rattle.std.proofs.Math.Option.{Option, none, some}
 use Rattle.word.specs.Words.{update, condition, operate}
 use Rattle.step.specs.Kinds.{kind_of}
@@ -13,7 +13,7 @@ use Rattle.state.specs.State.{token_at}
 use Rattle.state.specs.Net.{fire, net_of}
 use Rattle.state.specs.Legal.{legal, legal_wire, legal_node}
 use Rattle.state.specs.Load.{loaded, start_word}
-use Rattle.state.specs.Run.{At, Outcome, turn, follow, sweep_from, sweeps, finish, run, any_ready, complete, results_full, others_empty, phases_zero, zero_step_at, first_from, outcome}
+use Rattle.state.specs.Run.{At, turn, follow, sweep_from, sweeps, finish, run, any_ready, complete, results_full, others_empty, phases_zero, zero_step_at, first_from, outcome}
 
 abbrev ran : List ℕ → List ℕ → List ℕ → ℕ → At
 ran g inputs order allowance = run (net_of g) 13 order (record { state = loaded g inputs; left = allowance })

@@ -5,7 +5,7 @@
 --   legal                     'A state is legal if its length is right', and every wire and every record
 --
 -- Assumes nothing.
-use Rattle.std.specs.Prelude.{ℕ, ◌+◌, ◌*◌, Bool, true, false, ◌&&◌, List, eqb, get_or, length}
+use Rattle.std.specs.Prelude.{ℕ, ◌+◌, ◌*◌, Bool, true, ◌&&◌, List, eqb, get_or, length}
 use Rattle.std.proofs.Math.Option.{Option, none, some}
 use Rattle.word.specs.Words.{pick}
 use Rattle.step.specs.Kinds.{Kind}

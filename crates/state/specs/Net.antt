@@ -12,7 +12,7 @@ use Rattle.std.proofs.Math.Option.{Option, none, some}
 use Rattle.step.specs.Kinds.{Input, in0, in1, in2, Output, out0, out1}
 use Rattle.step.specs.Firing.{View, Effect}
 use Rattle.step.specs.Machines.{step}
-use Rattle.graph.specs.Graph.{Node, node_at, node_count, wire_count, input_at, output_at}
+use Rattle.graph.specs.Graph.{Node, node_at, wire_count, input_at, output_at}
 use Rattle.state.specs.State.{Stores, stored, token_on, has_room, record_at, emptied, filled, kept}
 
 pub record Net : Type 0 where

@@ -6,10 +6,10 @@
 --   outcome                           SPENT, COMPLETE, ZERO STEP with its node, STRANDED
 --
 -- Assumes nothing.
-use Rattle.std.specs.Prelude.{ℕ, zero, suc, ◌+◌, ◌-◌, ◌*◌, Bool, true, false, not, ◌&&◌, ◌||◌, List, [], ◌∷◌, eqb, ltb, get_or}
+use Rattle.std.specs.Prelude.{ℕ, zero, suc, ◌+◌, Bool, true, false, not, ◌&&◌, ◌||◌, List, [], ◌∷◌, eqb, ltb, get_or}
 use Rattle.std.proofs.Math.Option.{Option, none, some}
 use Rattle.word.specs.Words.{pick}
-use Rattle.step.specs.Kinds.{Kind, STREAM, GATE, CARRY, INVARIANT, SPLIT, FORK, DRAIN, OP, PICK, in0, in1, in2}
+use Rattle.step.specs.Kinds.{STREAM, GATE, CARRY, INVARIANT, SPLIT, FORK, DRAIN, OP, PICK, in0, in1, in2}
 use Rattle.graph.specs.Below.{every, times}
 use Rattle.graph.specs.Graph.{Node, node_at, node_count, wire_count, result_count, result_at, results, input_at}
 use Rattle.state.specs.State.{full_place, is_empty, token_on, record_at}
