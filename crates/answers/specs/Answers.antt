@@ -1,13 +1,13 @@
 -- What callers of the entries are answered: no second outcome fits, states may be lent on, and a run's answer does not hang on its order list.
 --
---   run-answers-alike         two calls on one state, neither refused, the first not SPENT, the second with enough allowance, answer the same and
+--   run_answers_alike         two calls on one state, neither refused, the first not SPENT, the second with enough allowance, answer the same and
 --                             leave the same words
---   run-counts-its-firings    the firings that a caller is told are the number of firings in the run's rule
---   load-leaves-right, fire-leaves-right, run-leaves-right    what a call that is not refused leaves is not refused by the next
---   one-load, one-fire, one-run       no second outcome fits
+--   run_counts_its_firings    the firings that a caller is told are the number of firings in the run's rule
+--   load_leaves_right, fire_leaves_right, run_leaves_right    what a call that is not refused leaves is not refused by the next
+--   one_load, one_fire, one_run       no second outcome fits
 --
 -- Assumes nothing.
-use Rattle.std.specs.Prelude.{ℕ, zero, suc, ◌+◌, ◌-◌, ◌≤◌, ◌≡◌, refl, ◌≢◌, Bool, true, false, length, eqb, ltb}
+use Rattle.std.specs.Prelude.{ℕ, ◌+◌, ◌-◌, ◌≤◌, ◌≡◌, refl, ◌≢◌, Bool, true, length, eqb, ltb}
 use Rattle.std.proofs.Common.{sym, ap₂, ◌∙◌, arith, eq-eqb}
 use Rattle.std.proofs.Math.Path.{ap, subst}
 use mathlib.Core.List.{List}
@@ -15,10 +15,10 @@ use Rattle.std.proofs.Math.Option.{Option, none, some}
 use Rattle.word.specs.Words.{pick}
 use Rattle.graph.specs.Graph.{node_count}
 use Rattle.graph.specs.Refusal.{graph_refusal}
-use Rattle.state.specs.Net.{net_of, fire, is_ready, or_else}
+use Rattle.state.specs.Net.{net_of, fire, or_else}
 use Rattle.state.specs.Legal.{right_length, legal}
 use Rattle.state.specs.Load.{input_count, loaded}
-use Rattle.state.specs.Run.{At, SPENT, Outcome, outcome}
+use Rattle.state.specs.Run.{SPENT, Outcome, outcome}
 use Rattle.machine.specs.Entries.{first, state_refusal, load_refusal, load_state, LoadAnswer, fire_refusal, fire_state, FireAnswer}
 use Rattle.machine.specs.declared.Fired.{Fired}
 use Rattle.machine.proofs.Answers.{state_known, state_right, first_zero}

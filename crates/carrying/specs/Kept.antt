@@ -5,7 +5,7 @@
 --   Pairs             which NEXT serves which ARG; PairsBefore: of the NEXTs before row r
 --   Uses              the operands that name a value, linked, last first
 --   Counted, Bases    how many values are carried into each loop; the first node and the first output of each row
---   homeFrom          a value's wire at home, by noted outputs, which are Low
+--   home_from          a value's wire at home, by noted outputs, which are Low
 --   OnTheWay          a body on the way of a value from its home into the loops that use it
 --
 -- Assumes nothing.

@@ -1,8 +1,8 @@
 -- The way of a value out of the bodies that use it: loop by loop going outward, up to its home.
 --
 --   is_loop, below            a body on the way that is not home is a loop
---   way_on, less-deep         the body around it is on the way, and lies less deep
---   nine-at-most              no body on the way lies deeper than 8
+--   way_on, less_deep         the body around it is on the way, and lies less deep
+--   nine_at_most              no body on the way lies deeper than 8
 --
 -- Assumes nothing.
 use Rattle.std.specs.Prelude.{ℕ, ◌<◌, ◌≡◌, ◌≢◌, ◌⊎◌, List, get_or}

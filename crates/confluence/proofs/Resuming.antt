@@ -1,7 +1,7 @@
 -- A run that was stopped is resumed: two runs in sequence against one with both allowances. For any net of n nodes.
 --
 --   resumed                   where the first has ended at a sweep's start, the second goes on as if it had not stopped
---   resumed-rests             wherever it has ended, if there is enough for the rest
+--   resumed_rests             wherever it has ended, if there is enough for the rest
 --
 -- Assumes nothing.
 use Rattle.std.specs.Prelude.{◌≡◌, length}

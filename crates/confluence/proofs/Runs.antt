@@ -1,8 +1,8 @@
 -- A run is one of the orders: what its rule fires, and where it ends. For any net of n nodes.
 --
---   run-spends                so it is with a run and the nodes that its rule fires
+--   run_spends                so it is with a run and the nodes that its rule fires
 --   run_ends                  a run ends with nothing left or at rest
---   enough-rests              an allowance of as many firings as some order needs to rest is enough for any run
+--   enough_rests              an allowance of as many firings as some order needs to rest is enough for any run
 --
 -- Assumes nothing.
 use Rattle.std.specs.Prelude.{◌≡◌, ◌≢◌, ◌⊎◌, length}

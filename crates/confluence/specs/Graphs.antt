@@ -1,12 +1,12 @@
 -- A graph's words as a net: its nodes are local, it is wired, its numbers end at n, and what an answer says of the state.
 --
---   nodes-are-local                               every node of every graph is local
---   accepted-is-wired                             of an accepted graph each wire has one reader and one writer
---   none-past-last                                no node past the last is ready
---   ready-is-a-node                               a ready node is one of the graph's
---   rests-if-none-ready, none-ready-if-rests      `any_ready` says exactly whether a state is at rest
---   spent-if-ready, ready-if-spent                SPENT is answered exactly if a node is ready
---   rests-unless-spent, not-spent-at-rest         so another answer is given exactly at rest
+--   nodes_are_local                               every node of every graph is local
+--   accepted_is_wired                             of an accepted graph each wire has one reader and one writer
+--   none_past_last                                no node past the last is ready
+--   ready_is_a_node                               a ready node is one of the graph's
+--   rests_if_none_ready, none_ready_if_rests      `any_ready` says exactly whether a state is at rest
+--   spent_if_ready, ready_if_spent                SPENT is answered exactly if a node is ready
+--   rests_unless_spent, not_spent_at_rest         so another answer is given exactly at rest
 --
 -- Assumes nothing.
 use Rattle.std.specs.Prelude.{◌≡◌, refl, ◌≢◌, Bool, true, false, not, List, ℕ, zero, suc, ◌+◌, ◌≤◌, ◌<◌, ltb}

@@ -1,8 +1,8 @@
 -- The words that firings put on each wire.
 --
---   putOn, puts, putBy        the words that a firing puts on a wire
---   historyOf                 the words that a list of firings puts on a wire, first to last
---   puts-given, puts-nothing  a wire that is given a word gets that word alone; another gets none
+--   put_on, puts, put_by      the words that a firing puts on a wire
+--   history_of                the words that a list of firings puts on a wire, first to last
+--   puts_given, puts_nothing  a wire that is given a word gets that word alone; another gets none
 --
 -- Assumes nothing.
 use Rattle.std.proofs.Math.Path.{◌≡◌, ap₂}

@@ -1,8 +1,8 @@
 -- The theorems about any order are not idle: the sum graph, freshly loaded, has a ready node, and with input 5 they speak of 58 firings.
 --
---   the-sum-graph-is-accepted
---   the-sum-graph-is-ready    whatever its input, a node is ready in the loaded state
---   the-sum-of-five           with input 5 every order has at most 58 firings, and one that rests has 58 and leaves 10 on the result's wire
+--   the_sum_graph_is_accepted
+--   the_sum_graph_is_ready    whatever its input, a node is ready in the loaded state
+--   the_sum_of_five           with input 5 every order has at most 58 firings, and one that rests has 58 and leaves 10 on the result's wire
 --
 -- Assumes nothing.
 use Rattle.std.specs.Prelude.{◌≡◌, refl, true, List, [], ◌∷◌, ℕ}

@@ -4,8 +4,8 @@
 --   history                   the words that a list of moves puts on a wire, first to last
 --   Diamond                   two different moves that are both ready may be made in either order
 --   Alike                     what every list of moves has to do with one that comes to rest
---   orders-rest-alike         a diamond is enough for that
---   as-many-is-all            a list with as many moves as one that rests has rested
+--   orders_rest_alike         a diamond is enough for that
+--   as_many_is_all            a list with as many moves as one that rests has rested
 --
 -- `fire i s` is the state after the move i in s, none where i is not ready. `put i s w` is what that move puts on wire w.
 -- Idea: a move that is ready where a resting list starts is one of its moves, and may be made first. So the moves of any other list are taken

@@ -3,8 +3,8 @@
 --   Each                      a property of every store
 --   Apart                     two lists of stores have no place in common
 --   stored_other              a place that no store names keeps its word
---   stored-value              a place holds v if each store at it stores v, and one does or it held v
---   stored-commute            stores that are apart may be made in either order
+--   stored_value              a place holds v if each store at it stores v, and one does or it held v
+--   stored_commute            stores that are apart may be made in either order
 --
 -- Assumes nothing.
 use Rattle.std.specs.Prelude.{◌≡◌, refl, ◌≢◌, List, [], ◌∷◌, ◌++◌, ℕ, ◌<◌, get_or, set, length}

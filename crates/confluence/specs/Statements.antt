@@ -1,22 +1,22 @@
 -- Any order, one end. Token graphs are fired in an order that nobody knows; these theorems say that the order does not matter.
 -- All speak of the very words that a caller lends: `g` is a graph's words, `s`, `t`, `u` are states' words, and a firing is `fire (net_of g)`.
 --
---   graph-nodes-commute       two different ready nodes may fire in either order
---   every-order-rests-alike   if some order rests, all do, after as many firings, in the same words, with the same words on every wire
---   none-rests-at-fewer       if some list of ready firings is longer than F, none rests after F
---   none-rests-without-bound  if there is no bound on their lengths, none rests
---   every-wire-balances       what stood on a wire and was put on it is what was taken from it and stands there
---   stage-fires               different nodes that are all ready fire in any order of them, and the end is the pointwise update
---   run-counts-firings        what a run's allowance has lost is the number of firings that its rule makes, each ready in its turn
---   run-is-an-order           a run that is not SPENT is so one of the orders that rest
---   spent-exactly             SPENT is answered exactly if a node is ready, and then nothing is left
---   enough-is-not-spent       an allowance of as many firings as some order needs is enough for a run with any list
---   runs-end-alike            so any two runs of one state with enough allowance end alike, whatever their lists
---   resumed-at-a-sweep        a run stopped at a sweep's start may be resumed as if it had not stopped
---   resumed-anyhow            and one stopped anywhere, if there is enough for the rest
+--   graph_nodes_commute       two different ready nodes may fire in either order
+--   every_order_rests_alike   if some order rests, all do, after as many firings, in the same words, with the same words on every wire
+--   none_rests_at_fewer       if some list of ready firings is longer than F, none rests after F
+--   none_rests_without_bound  if there is no bound on their lengths, none rests
+--   every_wire_balances       what stood on a wire and was put on it is what was taken from it and stands there
+--   stage_fires               different nodes that are all ready fire in any order of them, and the end is the pointwise update
+--   run_counts_firings        what a run's allowance has lost is the number of firings that its rule makes, each ready in its turn
+--   run_is_an_order           a run that is not SPENT is so one of the orders that rest
+--   spent_exactly             SPENT is answered exactly if a node is ready, and then nothing is left
+--   enough_is_not_spent       an allowance of as many firings as some order needs is enough for a run with any list
+--   runs_end_alike            so any two runs of one state with enough allowance end alike, whatever their lists
+--   resumed_at_a_sweep        a run stopped at a sweep's start may be resumed as if it had not stopped
+--   resumed_anyhow            and one stopped anywhere, if there is enough for the rest
 --
 -- The hypotheses, once for all:
---   graphRefusal g ≡ 0        the graph check accepts g; of that only one reader and one writer a wire, and wire numbers below W, are used.
+--   graph_refusal g ≡ 0       the graph check accepts g; of that only one reader and one writer a wire, and wire numbers below W, are used.
 --   Fires g order s t         the nodes of `order` fire one after the other, each ready in its turn, and lead from s to t.
 --   AtRest g t                no node is ready in t.
 -- No theorem asks for a legal state: what a firing does is fixed on any words, and the words of two ready nodes lie apart on any words. Where a

@@ -1,11 +1,11 @@
 -- What one firing leaves, place by place: taken wires empty, given wires with their words, its own record, and all else as it stood.
 --
---   wireAt                    a wire's two words
+--   wire_at                   a wire's two words
 --   Untouched, Touch, touch   a firing takes from a wire, gives on it, or leaves it alone
---   taken-after               a wire taken from holds 0 0
---   given-after               a wire given x holds 1 x
+--   taken_after               a wire taken from holds 0 0
+--   given_after               a wire given x holds 1 x
 --   still_after               another wire stands
---   left_after, own-after     the node's record is what it left; another's stands
+--   left_after, own_after     the node's record is what it left; another's stands
 --
 -- Assumes nothing.
 use Rattle.std.specs.Prelude.{◌≡◌, refl, ◌≢◌, ◌⊎◌, Bool, true, false, List, ℕ, ◌+◌, ◌*◌, ◌≤◌, ◌<◌, get_or, length}

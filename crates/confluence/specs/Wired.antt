@@ -2,10 +2,10 @@
 --
 --   Wired                     one reader, one writer, and wire numbers below the number of wires
 --   Store                     what one store of a firing is: of a taken wire, of a given wire, of the record
---   effect-stays              a firing depends only on the places at which it stores
+--   effect_stays              a firing depends only on the places at which it stores
 --   stores_apart              two ready nodes store at different places
 --   Commute                   what it is for two nodes to commute in a state
---   ready-nodes-commute       two different ready nodes commute
+--   ready_nodes_commute       two different ready nodes commute
 --
 -- Idea: a firing reads only places that it writes. A taken wire is full and a given one empty, readers and writers are single and records are
 -- the nodes' own: so the places of two ready nodes differ, and their stores may be made in either order.

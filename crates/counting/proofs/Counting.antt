@@ -1,9 +1,9 @@
 -- What the functions count, from the rows that they have seen.
 --
---   all-carried, one-noted        the values carried into a loop are counted; one more loop is noted
---   unnamed-is, named-is          a value leads to no operand exactly if no row names it
---   plain-few                     there are not so many nodes and wires that a sum would leave a word
---   counted-all, count-refused    the answer
+--   all_carried, one_noted        the values carried into a loop are counted; one more loop is noted
+--   unnamed_is, named_is          a value leads to no operand exactly if no row names it
+--   plain_few                     there are not so many nodes and wires that a sum would leave a word
+--   counted_all, count_refused    the answer
 --
 -- Assumes nothing.
 use Prim.Native.Nat.{ℕ, zero, suc, ◌+◌, ◌-◌, ◌*◌, ◌<◌, ◌≤◌}

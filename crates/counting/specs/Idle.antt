@@ -1,10 +1,10 @@
 -- THE COUNTS OF A TABLE'S GRAPH BY ITS ROWS, forks and drains too: from how many uses there are, and how many wires have none.
 --
 --   idle                  1 where a wire has no use, else 0
---   rowUses, rowIdle      the uses that a row's nodes and results have, the wires without a use that it gives
---   totals-by-rows        the counts with forks
+--   row_uses, row_idle      the uses that a row's nodes and results have, the wires without a use that it gives
+--   totals_by_rows        the counts with forks
 --   uses-of-.., idle-of-..        both by the row's kind
---   namedAny              some row names a value
+--   named_any              some row names a value
 --
 -- Assumes nothing.
 use Rattle.std.specs.Prelude.{ℕ, zero, suc, ◌+◌, ◌-◌, ◌*◌, ◌<◌, ◌≤◌, ◌≡◌, ◌≢◌, ◌⊎◌, Bool, true, false, cond, not}

@@ -1,9 +1,9 @@
 -- WHICH WIRES ARE USED: by what feeds each input.
 --
 --   Used, Fed             a wire has a use; what a used wire is
---   used-fed              a wire that is used is one of these
---   value-used, value-unused          a value's wire at home is used exactly if some row names the value
---   copy-used             a copy is used
+--   used_fed              a wire that is used is one of these
+--   value_used, value-unused          a value's wire at home is used exactly if some row names the value
+--   copy_used             a copy is used
 --
 -- Assumes nothing.
 use Rattle.std.specs.Prelude.{ℕ, zero, suc, ◌<◌, ◌≤◌, ◌≡◌, ◌≢◌, ◌⊎◌, Bool, cond, List, eqb}
@@ -22,7 +22,7 @@ use Rattle.structure.specs.Spans.{Encloses}
 use Rattle.structure.specs.Structure.{Structure, in_table}
 use Rattle.lowered.specs.Lists.{Among, none_some}
 use Rattle.lowered.specs.Roles.{Role, op_node, stream, gate, guard, copy_split, copy_invariant, carry, arg_split, Wire, start, output, Use, into, result}
-use Rattle.lowered.specs.Sources.{carried, home_wire, value_wire, value, nothing, named, is_op, is_for, is_arg_row, role_feed, wire_of, source}
+use Rattle.lowered.specs.Sources.{carried, home_wire, value_wire, nothing, named, is_op, is_for, is_arg_row, role_feed, wire_of, source}
 use Rattle.lowered.specs.Lower.{is_out, users}
 use Rattle.laid.specs.Listed.{Real, and_true, and_both}
 use Rattle.laid.specs.Made.{op_kind, node_feed, result_feed, home_of_start, home_of_op, home_of_for, home_of_arg, home_of_next}
@@ -321,7 +321,7 @@ module _ (t : List ℕ) (S : Structure t) where
   operand_value r j l h = let o = S.operands r j l h in let b = o.before in (omega arith, o.is_value)
 
   copied_value : (L v : ℕ) → carried t L v ≡ true → (v < size t) × (kind_at t v ≤ 6)
-  copied_value L v c = let C = carried_by t L v c in subst (λ (x : ℕ). (x < size t) × (kind_at t x ≤ 6)) C.is (operand_value C.row C.place C.row-Below C.place_below)
+  copied_value L v c = let C = carried_by t L v c in subst (λ (x : ℕ). (x < size t) × (kind_at t x ≤ 6)) C.is (operand_value C.row C.place C.row_below_lem C.place_below)
 
   -- a wire that is no value's is not taken as one
   not_value : (w : Wire) (v B : ℕ) → (v < size t) × (kind_at t v ≤ 6) → w ≡ value_wire t v B → Plain (wire_what w) ⊎ (wire_what w ≡ 9)
@@ -408,7 +408,7 @@ module _ (t : List ℕ) (S : Structure t) where
       go (by_row r j lr h e) = (r, j, lr, h, same (operand t r j) (reads t r) (operand_value r j lr h) e)
       go (by_copy M x c e) =
           let C = carried_by t M x c in
-          (C.row, C.place, C.row-Below, C.place_below, C.is ∙ same x (reads t M) (copied_value M x c) e)
+          (C.row, C.place, C.row_below_lem, C.place_below, C.is ∙ same x (reads t M) (copied_value M x c) e)
       go (by_stream M out0 e) = absurd (p.0 (ap wire_what e))
       go (by_stream M out1 e) = absurd (p.1 (ap wire_what e))
       go (by_guard M x lx c e) = absurd (p.3 (ap wire_what e))

@@ -1,19 +1,19 @@
 -- THE THIRD DEMAND OVER THE ENTRIES' CONTRACTS. The numbers and words are whatever the calls gave back; of them nothing is known but what the entries promise.
 --
 --   Called                        `lower` on lent words, `load` of what it wrote, `run` of what that left, none refused
---   calls-go-through              there are such calls wherever `lower` answers 0, table and inputs are words, and the lengths and the list are right
---   calls-rehearse-the-reading    where the reading ends there is one F: with an allowance of F or more every three calls are answered COMPLETE with F
+--   calls_go_through              there are such calls wherever `lower` answers 0, table and inputs are words, and the lengths and the list are right
+--   calls_rehearse_the_reading    where the reading ends there is one F: with an allowance of F or more every three calls are answered COMPLETE with F
 --                                 firings, the state holds the reading's words and nothing else, and N + 1 raw and N gated conditions have passed for each
 --                                 opening of N turns
---   calls-meet-the-fault          where it meets a zero step, they are answered SPENT, or ZERO STEP with the lowest STREAM that waits with a zero step,
+--   calls_meet_the_fault          where it meets a zero step, they are answered SPENT, or ZERO STEP with the lowest STREAM that waits with a zero step,
 --                                 and the STREAM of that loop is one
---   complete-calls-read           where they are answered COMPLETE, the reading ends, and the state holds its words and nothing else
---   zero-step-calls-read          where they are answered ZERO STEP, the reading meets a zero step, as calls-meet-the-fault names it
---   calls-are-never-stranded      they are never answered STRANDED; calls-are-not-refused: nor with a refusal
---   called-is-checked, called-with-the-inputs     such calls have passed the table's check, with as many inputs as INPUT rows
+--   complete_calls_read           where they are answered COMPLETE, the reading ends, and the state holds its words and nothing else
+--   zero_step_calls_read          where they are answered ZERO STEP, the reading meets a zero step, as calls_meet_the_fault names it
+--   calls_are_never_stranded      they are never answered STRANDED; calls_are_not_refused: nor with a refusal
+--   called_is_checked, called_with_the_inputs     such calls have passed the table's check, with as many inputs as INPUT rows
 --   FireCalls                     calls of `fire` one after another, each answered that the node has fired
---   fire-calls-are-firings        they are firings of the rule, in that order
---   fire-calls-rehearse-the-reading   so every order that a caller makes of them, until no node is ready, is F long and ends in the same state
+--   fire_calls_are_firings        they are firings of the rule, in that order
+--   fire_calls_rehearse_the_reading   so every order that a caller makes of them, until no node is ready, is F long and ends in the same state
 --
 -- Assumes nothing.
 use Rattle.std.specs.Prelude.{ℕ, ◌≤◌, ◌<◌, ◌≡◌, refl, ◌⊎◌, ◌≢◌, Bool, true, false, List, [], ◌∷◌, length, take}
@@ -45,7 +45,8 @@ use Rattle.lowered.specs.Lower.{lowered_words}
 use Rattle.lowered.specs.Room.{check_answer, lower_answer, lent_after}
 use Rattle.lowering.specs.Answers.{LowerAnswer}
 use Rattle.faithful.specs.Endings.{AsRead}
-use Rattle.faithful.specs.Statements.{EndsAsRead, ConditionsTold, FaultNamed, loaded_table, lowered_table_means_its_reading}
+use Rattle.faithful.specs.Statements.{EndsAsRead, ConditionsTold, FaultNamed, loaded_table}
+use Rattle.faithful.proofs.Statements.{lowered_table_means_its_reading}
 use Rattle.demands.specs.Rehearsal.{Graph, graph_is_lowered, lowered_is_checked, only_the_list_is_refused, loaded_is, rehearsal_is_the_reading, rehearsal_meets_the_fault, complete_is_the_reading, zero_step_run_is_the_reading, run_is_never_stranded, run_is_not_refused, turns_are_made, as_many_inputs}
 
 pub record Called (t lent inputs s list : List ℕ) (a : ℕ) (q : Ran) (end : List ℕ) : Type 0 where

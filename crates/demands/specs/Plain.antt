@@ -1,22 +1,22 @@
 -- THE READING WITHOUT THE GRAPH SAYS WHAT THE GRAPH DOES, over the entries' contracts: `PlainAnswer` of read_plain, `Called` of lower, load and run.
 -- `results_in t after` are the words that read_plain has written first in the words lent to it.
 --
---   ended-means-every-order-rests         where read_plain answers ended and `lower` answers 0, every order of firings rests with the words that it wrote
---   ended-means-every-order-of-calls      so does every order of calls of `fire`
---   ended-means-complete-calls            and three calls lower, load, run with enough allowance are answered COMPLETE and leave those words
---   read-inputs-are-loaded, read-tables-are-called        there are such calls: `load` takes the inputs that read_plain takes
---   complete-calls-mean-ended             and back: where such calls are answered COMPLETE with F firings there is a T of at most F; read_plain is ended with T turns and writes the words
+--   ended_means_every_order_rests         where read_plain answers ended and `lower` answers 0, every order of firings rests with the words that it wrote
+--   ended_means_every_order_of_calls      so does every order of calls of `fire`
+--   ended_means_complete_calls            and three calls lower, load, run with enough allowance are answered COMPLETE and leave those words
+--   read_inputs_are_loaded, read_tables_are_called        there are such calls: `load` takes the inputs that read_plain takes
+--   complete_calls_mean_ended             and back: where such calls are answered COMPLETE with F firings there is a T of at most F; read_plain is ended with T turns and writes the words
 --                                         that the calls left where T or more are allowed, and spent where fewer are
---   rest-means-an-answer                  so where any order rests: ended with the words that it left, or the zero step that it waits with
---   called-is-not-refused                 read_plain refuses no table and inputs that such calls took, if it is lent a word for each OUT row
---   zero-step-means-faulted-calls         where it answers a zero step at row L, they are answered SPENT, or ZERO STEP with the STREAM of L waiting
---   zero-step-means-faulted-orders        and so is every order that rests
---   zero-step-calls-mean-a-zero-step      and back, where they are answered ZERO STEP
---   two-answers-agree                     ended and COMPLETE: the same words
---   two-answers-never-differ              what the two may be answered together, case by case
---   always-spent-never-rests, always-spent-calls-are-spent        where read_plain is spent with every allowance, no order rests and all such calls are SPENT
---   an-endless-loop-is-always-spent, an-endless-loop-runs-for-ever        a loop for ever: read_plain is spent with every allowance, and so are such calls
---   both-sum-to-ten                        the sum table with 5: whatever calls are answered COMPLETE leave the 10 that read_plain writes
+--   rest_means_an_answer                  so where any order rests: ended with the words that it left, or the zero step that it waits with
+--   called_is_not_refused                 read_plain refuses no table and inputs that such calls took, if it is lent a word for each OUT row
+--   zero_step_means_faulted_calls         where it answers a zero step at row L, they are answered SPENT, or ZERO STEP with the STREAM of L waiting
+--   zero_step_means_faulted_orders        and so is every order that rests
+--   zero_step_calls_mean_a_zero_step      and back, where they are answered ZERO STEP
+--   two_answers_agree                     ended and COMPLETE: the same words
+--   two_answers_never_differ              what the two may be answered together, case by case
+--   always_spent_never_rests, always_spent_calls_are_spent        where read_plain is spent with every allowance, no order rests and all such calls are SPENT
+--   an_endless_loop_is_always_spent, an_endless_loop_runs_for_ever        a loop for ever: read_plain is spent with every allowance, and so are such calls
+--   both_sum_to_ten                        the sum table with 5: whatever calls are answered COMPLETE leave the 10 that read_plain writes
 --
 -- Assumes nothing.
 use Prim.{Unit, tt}
@@ -39,7 +39,8 @@ use Rattle.reading.specs.Reading.{Opening, Outcome, ended, zero_step, read}
 use Rattle.reading.specs.Outcome.{Reads, one_outcome}
 use Rattle.reading.specs.Within.{turns_made, openings_of}
 use Rattle.engine.specs.Answers.{PlainAnswer}
-use Rattle.engine.specs.Against.{Fit, results_in, ended_is_the_reading, the_reading_is_ended, zero_step_is_the_reading, the_reading_is_a_zero_step, spent_is_the_rest, too_few_are_spent, endless_is_spent, refused_is_refused, fit_is_not_refused}
+use Rattle.engine.specs.Against.{Fit, results_in, fit_is_not_refused}
+use Rattle.engine.proofs.Against.{ended_is_the_reading, the_reading_is_ended, zero_step_is_the_reading, the_reading_is_a_zero_step, spent_is_the_rest, too_few_are_spent, endless_is_spent, refused_is_refused}
 use Rattle.engine.specs.Cases.{five_turns_end}
 use Rattle.engine.specs.declared.Plain.{Plain}
 use Rattle.engine.specs.declared.Plain.TheVariants.{Refused, Ended, ZeroStep, Spent}
@@ -47,7 +48,8 @@ use Rattle.lowered.specs.Lower.{lowered_words}
 use Rattle.lowered.specs.Room.{check_answer, lower_answer}
 use Rattle.laid.specs.Answers.{passed_check}
 use Rattle.faithful.specs.Endings.{AsRead}
-use Rattle.faithful.specs.Statements.{loaded_table, Faithful, EndsAsRead, FaultNamed, lowered_table_means_its_reading, zero_step_is_named, rest_bounds_the_reading, endless_reading_never_rests, turns_are_firings}
+use Rattle.faithful.specs.Statements.{loaded_table, Faithful, EndsAsRead, FaultNamed}
+use Rattle.faithful.proofs.Statements.{lowered_table_means_its_reading, zero_step_is_named, rest_bounds_the_reading, endless_reading_never_rests, turns_are_firings}
 use Rattle.faithful.specs.NotIdle.{stay_table, stay_is_checked, stay_reads_for_ever}
 use Rattle.demands.specs.Rehearsal.{Graph, lowered_is_checked, inputs_are_loaded}
 use Rattle.demands.specs.Calls.{Called, CallsAsRead, FireCalls, NoneReady, calls_go_through, calls_rehearse_the_reading, calls_meet_the_fault, complete_calls_read, zero_step_calls_read, calls_are_never_stranded, calls_are_not_refused, called_turns, called_is_checked, called_with_the_inputs, fire_calls_rehearse_the_reading}

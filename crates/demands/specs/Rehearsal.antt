@@ -2,17 +2,17 @@
 -- loaded state is run, each by a call that is not refused.
 --
 --   Graph                         the words that `lower` has written: as many as it answers
---   graph-is-lowered              they are the table's graph, whatever was lent; graph-is-accepted: `check_graph` answers 0
---   only-inputs-are-refused       `load` refuses it for the inputs' or the state's length alone; only-the-list-is-refused: `run` for its list alone,
+--   graph_is_lowered              they are the table's graph, whatever was lent; graph_is_accepted: `check_graph` answers 0
+--   only_inputs_are_refused       `load` refuses it for the inputs' or the state's length alone; only_the_list_is_refused: `run` for its list alone,
 --                                 where table and inputs are words, below 2^32
---   rehearsal-is-the-reading      where the plain reading ends, every run with enough allowance answers COMPLETE with the same firings, whatever was lent
+--   rehearsal_is_the_reading      where the plain reading ends, every run with enough allowance answers COMPLETE with the same firings, whatever was lent
 --                                 and whatever its list, leaves the reading's words and nothing else, and has passed N + 1 raw and N gated conditions for
 --                                 each opening of N turns
---   rehearsal-meets-the-fault     where it meets a zero step, every run is SPENT or leaves the STREAM of that loop waiting with it, and answers ZERO STEP
---   complete-is-the-reading       a run that answers COMPLETE: the plain reading ends, and the run has left its words and nothing else
---   zero-step-run-is-the-reading      one that answers ZERO STEP: the plain reading meets a zero step; run-is-never-stranded: none answers STRANDED
---   turns-are-made                the reading has made no more turns than such a run has made firings
---   as-many-inputs                `load` takes as many inputs as the table has INPUT rows; inputs-are-loaded: those it takes, in a state of the right length
+--   rehearsal_meets_the_fault     where it meets a zero step, every run is SPENT or leaves the STREAM of that loop waiting with it, and answers ZERO STEP
+--   complete_is_the_reading       a run that answers COMPLETE: the plain reading ends, and the run has left its words and nothing else
+--   zero_step_run_is_the_reading      one that answers ZERO STEP: the plain reading meets a zero step; run_is_never_stranded: none answers STRANDED
+--   turns_are_made                the reading has made no more turns than such a run has made firings
+--   as_many_inputs                `load` takes as many inputs as the table has INPUT rows; inputs_are_loaded: those it takes, in a state of the right length
 --
 -- Assumes nothing.
 use Rattle.std.specs.Prelude.{ℕ, ◌+◌, ◌-◌, ◌≤◌, ◌≡◌, refl, ◌⊎◌, ◌≢◌, Bool, true, false, eqb, length, take, drop}
@@ -49,7 +49,8 @@ use Rattle.laid.specs.Accepts.{inputs_are_the_rows}
 use Rattle.laid.specs.Answers.{success_writes_the_graph_first, written_graph_is_accepted, written_graph_fits}
 use Rattle.laid.specs.Limits.{lowered_words_lem}
 use Rattle.faithful.specs.Endings.{AsRead}
-use Rattle.faithful.specs.Statements.{loaded_table, ConditionsTold, FaultNamed, written_table_is_checked, lowered_table_means_its_reading, every_run_is_complete, zero_step_is_named, zero_step_means_the_reading, rest_is_never_stranded, complete_run_means_the_reading, turns_are_firings}
+use Rattle.faithful.specs.Statements.{loaded_table, ConditionsTold, FaultNamed, written_table_is_checked}
+use Rattle.faithful.proofs.Statements.{lowered_table_means_its_reading, every_run_is_complete, zero_step_is_named, zero_step_means_the_reading, rest_is_never_stranded, complete_run_means_the_reading, turns_are_firings}
 
 -- the words that `lower` has written
 abbrev pub Graph : List ℕ → List ℕ → List ℕ

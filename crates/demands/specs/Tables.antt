@@ -1,11 +1,11 @@
 -- What callers of the table's entries are answered: no second outcome fits, the check and lowering agree, and what is written passes the graph's check.
 --
---   one-check, one_lower              no second outcome fits
---   check-and-lower-agree             with lent words enough, `lower` answers the number and row of `check_table`
---   lower-refuses-too-little          with too few, 10 and the row count, where `check_table` answers 0
---   refused-words-stay                a refusal leaves every lent word
---   written-words                     else the graph's words stand first, and the rest stays
---   written-graph-passes              and `check_graph` answers 0 for them
+--   one_check, one_lower              no second outcome fits
+--   check_and_lower_agree             with lent words enough, `lower` answers the number and row of `check_table`
+--   lower_refuses_too_little          with too few, 10 and the row count, where `check_table` answers 0
+--   refused_words_stay                a refusal leaves every lent word
+--   written_words                     else the graph's words stand first, and the rest stays
+--   written_graph_passes              and `check_graph` answers 0 for them
 --
 -- Assumes nothing.
 use Rattle.std.specs.Prelude.{ℕ, ◌+◌, ◌≤◌, ◌<◌, ◌≡◌, ◌≢◌, List, ◌++◌, length, take, drop}

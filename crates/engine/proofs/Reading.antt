@@ -1,21 +1,22 @@
 -- The walk of the whole table, from its first row: what it has come to is the answer.
 -- Assumes nothing.
-use Prim.Native.Nat.{ℕ, zero, suc, ◌+◌, ◌-◌, ◌*◌, ◌≤◌}
+use Prim.Native.Nat.{ℕ, suc, ◌+◌, ◌-◌, ◌*◌, ◌≤◌}
 use mathlib.Core.Option.{some}
 use mathlib.Core.List.{List, [], ◌∷◌, reverse}
 use mathlib.Core.Logic.{◌⊎◌, ⊎_elim}
 use mathlib.Core.Path.{◌≡◌, refl, sym, ap, ◌∙◌, subst}
 use native.Mathlib.Omega.{arith}
-use lib.ListN.{length}
 use lib.Seq.{sets}
 use Rattle.table.specs.Rows.{kind_at, size}
 use Rattle.table.specs.Right.{TableRight}
 use Rattle.structure.specs.Structure.{right_table_has_structure, in_table}
 use Rattle.structure.specs.Behind.{loops_at, loops_first}
-use Rattle.reading.specs.Reading.{Env, Opening, State, at, Outcome, ended, zero_step, stop, first_words, begin, results_from, step}
+use Rattle.reading.specs.Reading.{Env, State, at, Outcome, ended, zero_step, stop, first_words, begin, results_from, step}
 use Rattle.reading.specs.Steps.{step_past}
-use Rattle.reading.specs.Within.{turns_made, Within, comes, spent, read_within, reverse_made, step_stops_there, one_within, Reach, reach_within, due_is_spent}
-use Rattle.reading.specs.Standing.{Standing, begin_stands, end_loops, walk_is_bounded}
+use Rattle.reading.specs.Within.{turns_made, Within, comes, spent, read_within, reverse_made, Reach}
+use Rattle.reading.proofs.Within.{step_stops_there, one_within, reach_within, due_is_spent}
+use Rattle.reading.specs.Standing.{Standing, begin_stands, end_loops}
+use Rattle.reading.proofs.Bounded.{walk_is_bounded}
 use Rattle.turning.specs.Words.{env_of}
 use Rattle.walking.specs.Walks.{Faults, Dues, Walked}
 use Rattle.walking.specs.declared.Went.TheVariants.{On}

@@ -1,10 +1,10 @@
 -- WHAT read_plain ANSWERS, with the lent words after it: docs/RULES.md, section 'The reading without the graph'.
 --
---   plainRefusal          1 to 9 as the check of the rows gives them, then 16, then 10
---   plainWithin           the reading's own steps, stopped before a turn that is not allowed
---   plainAnswer, plainLent    the answer, and the lent words after the call
+--   plain_refusal          1 to 9 as the check of the rows gives them, then 16, then 10
+--   plain_within           the reading's own steps, stopped before a turn that is not allowed
+--   plain_answer, plain_lent    the answer, and the lent words after the call
 --   PlainAnswer           what read_plain promises
---   plainNumber, plainRow, plainOutcome, plainTurns      the numbers for each case of the answer
+--   plain_number, plain_row, plain_outcome, plain_turns      the numbers for each case of the answer
 --
 -- Assumes nothing.
 use Rattle.std.specs.Prelude.{ℕ, suc, ◌*◌, cond, List, ◌≡◌, eqb, leb, length}

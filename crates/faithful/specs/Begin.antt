@@ -1,7 +1,7 @@
 -- The beginning: the loaded starts are spread to their uses, and that is where the reading stands at row 0.
 --
 --   Begun                     the first m starts have been spread
---   begin-all                 from the loaded tokens all starts are spread, and nothing is put on a node's output
+--   begin_all                 from the loaded tokens all starts are spread, and nothing is put on a node's output
 --   state0, shown0, gamma0    the use machine's first state, shown by the graph, is the reading's at row 0
 --
 -- Assumes nothing.

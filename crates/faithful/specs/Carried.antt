@@ -1,11 +1,11 @@
 -- Bodies of a table of words, and the values that are carried into them.
 --
---   inner-at                  the body of a row is the innermost one there
---   inside-means              that body B is loop L or lies in it, in row numbers
---   carried-by, by-carried    a value is carried into a loop because a row in it names it
---   carried-before            it is the value of a row before the loop
---   carried-passed            and of a NEXT the END has passed before the loop opens
---   carried-around            it is at home in the body around the loop, or carried into that
+--   inner_at                  the body of a row is the innermost one there
+--   inside_means              that body B is loop L or lies in it, in row numbers
+--   carried_by, by_carried    a value is carried into a loop because a row in it names it
+--   carried_before            it is the value of a row before the loop
+--   carried_passed            and of a NEXT the END has passed before the loop opens
+--   carried_around            it is at home in the body around the loop, or carried into that
 --
 -- Assumes nothing.
 use Rattle.std.specs.Prelude.{◌≡◌, refl, ◌≢◌, ◌⊎◌, Bool, true, false, not, ◌&&◌, ◌||◌, List, ℕ, zero, suc, ◌≤◌, ◌<◌}

@@ -1,13 +1,13 @@
 -- The steps of END.
 --
---   step-again                another turn: each CARRY takes `b` and STREAM gives a pair; GATE gives index and condition, each CARRY takes `d`, each
+--   step_again                another turn: each CARRY takes `b` and STREAM gives a pair; GATE gives index and condition, each CARRY takes `d`, each
 --                             ARG's SPLIT gives it; each INVARIANT gives its word again
---   step-leave                the loop is left: STREAM gives its last pair, the ARGs' SPLITs give the exit words, and GATE's last false clears
+--   step_leave                the loop is left: STREAM gives its last pair, the ARGs' SPLITs give the exit words, and GATE's last false clears
 --                             each INVARIANT
 --
 -- The first stage empties the CARRYs' `b` uses before GATE and SPLIT refill the body. As at FOR, what is known of the machines stands in the tables.
 -- Assumes nothing.
-use Rattle.std.specs.Prelude.{◌≡◌, refl, true, false, [], ◌∷◌, ℕ, suc, eqb}
+use Rattle.std.specs.Prelude.{◌≡◌, refl, true, false, ℕ, suc}
 use Rattle.std.proofs.Common.{inl, inr}
 use Rattle.std.proofs.Math.Option.{none, some}
 use Rattle.word.specs.Words.{condition, update}
@@ -18,10 +18,9 @@ use Rattle.uses.specs.Machine.{State}
 use Rattle.faithful.specs.Table.{Table, named}
 use Rattle.faithful.specs.Good.{Good}
 use Rattle.faithful.specs.Gamma.{Env, Gamma}
-use Rattle.faithful.specs.Rows.{Path}
-use Rattle.faithful.specs.Stages.{Effects, say_if}
+use Rattle.faithful.specs.Stages.{Effects}
 use Rattle.faithful.specs.Turn.{eff, at_an_end, turn, exit, nexts_to, turn_env}
-use Rattle.faithful.specs.Course.{Course, stream_turns, copy_turns, made}
+use Rattle.faithful.specs.Course.{Course, stream_turns, copy_turns}
 use Rattle.faithful.specs.For.{pair_yes, pair_no}
 
 module _ (tb : Table) (g : Good tb) (L s t b u c : ℕ) (q : tb.row L ≡ for s t b u c) (env : Env) (σ : State) (G : Gamma tb (tb.last L) env σ) where
@@ -33,7 +32,7 @@ module _ (tb : Table) (g : Good tb) (L s t b u c : ℕ) (q : tb.row L ≡ for s 
   news a = env (named (tb.row (tb.next_of a)))
 
   -- another turn
-  abbrev a1 : Effects
+  abbrev pub a1 : Effects
   a1 (op_node r) = none
   a1 (stream M) = eff false false false (some index) (some 1) (holding (update u index (env t)) (env t) (env b))
   a1 (gate M) = none
@@ -43,7 +42,7 @@ module _ (tb : Table) (g : Good tb) (L s t b u c : ℕ) (q : tb.row L ≡ for s 
   a1 (carry a) = eff false false true (some (news a)) none (in_phase 1)
   a1 (arg_split a) = none
 
-  abbrev a2 : Effects
+  abbrev pub a2 : Effects
   a2 (op_node r) = none
   a2 (stream M) = none
   a2 (gate M) = eff true true false (some index) (some 1) (in_phase 1)
@@ -53,7 +52,7 @@ module _ (tb : Table) (g : Good tb) (L s t b u c : ℕ) (q : tb.row L ≡ for s 
   a2 (carry a) = eff true false false none none (in_phase 2)
   a2 (arg_split a) = eff true true false (some (news a)) none rest
 
-  abbrev a3 : Effects
+  abbrev pub a3 : Effects
   a3 (op_node r) = none
   a3 (stream M) = none
   a3 (gate M) = none
@@ -64,7 +63,7 @@ module _ (tb : Table) (g : Good tb) (L s t b u c : ℕ) (q : tb.row L ≡ for s 
   a3 (arg_split a) = none
 
   -- none
-  abbrev l1 : Effects
+  abbrev pub l1 : Effects
   l1 (op_node r) = none
   l1 (stream M) = eff false false false (some index) (some 0) rest
   l1 (gate M) = none
@@ -74,7 +73,7 @@ module _ (tb : Table) (g : Good tb) (L s t b u c : ℕ) (q : tb.row L ≡ for s 
   l1 (carry a) = eff false false true (some (news a)) none (in_phase 1)
   l1 (arg_split a) = none
 
-  abbrev l2 : Effects
+  abbrev pub l2 : Effects
   l2 (op_node r) = none
   l2 (stream M) = none
   l2 (gate M) = eff true true false none (some 0) rest
@@ -84,7 +83,7 @@ module _ (tb : Table) (g : Good tb) (L s t b u c : ℕ) (q : tb.row L ≡ for s 
   l2 (carry a) = eff true false false none none rest
   l2 (arg_split a) = eff true true false none (some (news a)) rest
 
-  abbrev l3 : Effects
+  abbrev pub l3 : Effects
   l3 (op_node r) = none
   l3 (stream M) = none
   l3 (gate M) = none
@@ -100,7 +99,7 @@ module _ (tb : Table) (g : Good tb) (L s t b u c : ℕ) (q : tb.row L ≡ for s 
     env1 = turn_env tb L index news env
 
     -- of each role: stages 1, 2 and 3, its inputs, its record
-    repeats : Course tb g L s t b u c q env at_an_end (turn index news) a1 a2 a3
+    pub repeats : Course tb g L s t b u c q env at_an_end (turn index news) a1 a2 a3
     repeats =
         record {
           of_stream = (inr (λ _ _ _. rw q (pair_yes u c index (env t) (env b) k none none none (g.for_code L s t b u c q) yes-turn)), inl refl, inl refl, refl, stream_turns tb g L s t b u c q env index news);
@@ -116,10 +115,6 @@ module _ (tb : Table) (g : Good tb) (L s t b u c : ℕ) (q : tb.row L ≡ for s 
           nexts = λ v. (refl, refl, refl);
         }
 
-    -- THE STEP of an END, with another turn
-    pub step_again : Path tb g env σ (tb.first L) env1 (λ M. say_if (eqb M L) (1 ∷ [])) (λ M. say_if (eqb M L) (1 ∷ []))
-    step_again = made tb g L s t b u c q env at_an_end (turn index news) a1 a2 a3 repeats σ G (λ M. say_if (eqb M L) (1 ∷ [])) (λ M. say_if (eqb M L) (1 ∷ [])) (λ M. refl) (λ M. refl)
-
   -- ---- the loop is left
   module _ (no-turn : condition c index (env b) ≡ 0) where
     abbrev pub leaving : Env
@@ -128,7 +123,7 @@ module _ (tb : Table) (g : Good tb) (L s t b u c : ℕ) (q : tb.row L ≡ for s 
     abbrev pub env0 : Env
     env0 = nexts_to tb L leaving env
 
-    leaves : Course tb g L s t b u c q env at_an_end (exit leaving) l1 l2 l3
+    pub leaves : Course tb g L s t b u c q env at_an_end (exit leaving) l1 l2 l3
     leaves =
         record {
           of_stream = (inr (λ _ _ _. rw q (pair_no u c index (env t) (env b) none none none (g.for_code L s t b u c q) no-turn)), inl refl, inl refl, refl, refl);
@@ -143,7 +138,3 @@ module _ (tb : Table) (g : Good tb) (L s t b u c : ℕ) (q : tb.row L ≡ for s 
           copies = λ v. (refl, refl, refl);
           nexts = λ v. (refl, refl, refl);
         }
-
-    -- THE STEP of an END, that leaves
-    pub step_leave : Path tb g env σ (suc (tb.last L)) env0 (λ M. say_if (eqb M L) (0 ∷ [])) (λ M. say_if (eqb M L) (0 ∷ []))
-    step_leave = made tb g L s t b u c q env at_an_end (exit leaving) l1 l2 l3 leaves σ G (λ M. say_if (eqb M L) (0 ∷ [])) (λ M. say_if (eqb M L) (0 ∷ [])) (λ M. refl) (λ M. refl)

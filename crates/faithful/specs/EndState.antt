@@ -1,7 +1,7 @@
 -- The state in which a graph's results hold these words and nothing else stands, as one list of words.
 --
---   heldOn, endState          for each wire 1 and its word if it is a result's, else 0 0; then four zeros for each node
---   whole-state               a state that is so at each place is that list
+--   held_on, end_state        for each wire 1 and its word if it is a result's, else 0 0; then four zeros for each node
+--   whole_state               a state that is so at each place is that list
 --
 -- Assumes nothing.
 use Rattle.std.specs.Prelude.{◌≡◌, refl, Bool, true, false, cond, ◌≢◌, List, [], ◌∷◌, ◌++◌, eqb, length}

@@ -1,15 +1,15 @@
 -- Where an order on the lowered words has ended as the reading has: the state's words, and the run's answer there.
 --
 --   AsRead                    the whole state: the results hold the reading's words in order, every other wire and every record is zero
---   ended-as-read             so it is where the reading has ended
---   answers-complete          and there the answer is COMPLETE
+--   ended_as_read             so it is where the reading has ended
+--   answers_complete          and there the answer is COMPLETE
 --
 -- Assumes nothing.
 use Rattle.std.specs.Prelude.{◌≡◌, refl, ◌≢◌, Bool, false, cond, not, ◌||◌, List, [], ◌∷◌, ◌++◌, ℕ, zero, suc, ◌+◌, ◌≤◌, ◌<◌, eqb, length, get_or}
 use Rattle.std.proofs.Math.Path.{sym, ap}
-use Rattle.std.proofs.Common.{ap₂, ◌∙◌, subst₂, append_assoc, eq-eqb, eqb-true, lt-ltb}
+use Rattle.std.proofs.Common.{ap₂, ◌∙◌, append_assoc, eq-eqb, eqb-true, lt-ltb}
 use Rattle.std.proofs.Math.Bool.{true}
-use Rattle.std.proofs.Math.Option.{none, some}
+use Rattle.std.proofs.Math.Option.{some}
 use native.Mathlib.Omega.{arith}
 use Rattle.std.proofs.Math.Decide.{ℕ_discrete}
 use Rattle.std.proofs.Math.ListN.{get_elem?}
@@ -19,7 +19,6 @@ use Rattle.graph.specs.Below.{every_from, every, times, times_one, times_within}
 use Rattle.graph.specs.Graph.{node_count, wire_count, result_count, result_at, results}
 use Rattle.graph.specs.Refusal.{graph_refusal}
 use Rattle.state.specs.State.{full_place, word_place, token, token_at, is_empty, record_at}
-use Rattle.state.specs.Legal.{state_length}
 use Rattle.state.specs.Net.{net_of, fire}
 use Rattle.state.specs.Run.{is_full, is_result, results_full, others_empty, phases_zero, complete, COMPLETE, outcome}
 use Rattle.confluence.specs.Orders.{Rests}
@@ -38,9 +37,7 @@ use Rattle.laid.specs.Words.{result_count_lem, result_at_lem}
 use Rattle.uses.specs.Flat.{Holds}
 use Rattle.faithful.specs.Table.{Table}
 use Rattle.faithful.specs.Tables.{table_of, row_at_lem, is_out_lem, out_words_lem}
-use Rattle.faithful.specs.Finish.{Finished}
-use Rattle.faithful.specs.Places.{layout, laid}
-use Rattle.faithful.specs.EndState.{end_state, whole_state}
+use Rattle.faithful.specs.EndState.{end_state}
 
 -- ---- the words that the OUT rows name, in order
 
@@ -134,7 +131,7 @@ module _ (t : List ℕ) (S : Structure t) (ok : graph_refusal (lowered_words t) 
       (e.0, e.1, row_at_lem t e.0 m.0 ∙ is_out_lem t e.0 (eqb-true (kind_at t e.0) 8 m.1))
 
   -- an OUT row is the row of a result wire
-  row_result : (q x : ℕ) → tb.row q ≡ out x → (k : ℕ) × (k < result_count g) × (result_at g k ≡ stands_on t (result q)) × (word t q 1 ≡ x)
+  pub row_result : (q x : ℕ) → tb.row q ≡ out x → (k : ℕ) × (k < result_count g) × (result_at g k ≡ stands_on t (result q)) × (word t q 1 ≡ x)
   unfolding out_rows result_total
   row_result q x h =
       let w = out_words_lem t S q x h in
@@ -143,29 +140,6 @@ module _ (t : List ℕ) (S : Structure t) (ok : graph_refusal (lowered_words t) 
       let p = at_position ℕ_discrete q (those (is_out t) (size t)) a in
       let b = in_range (those (is_out t) (size t)) (position ℕ_discrete q (those (is_out t) (size t))) q p in
       (position ℕ_discrete q (those (is_out t) (size t)), omega arith, result_at_lem t (position ℕ_discrete q (those (is_out t) (size t))) q p, w.3)
-
-  pub ended_as_read : (env : Env) (u : List ℕ) → length u ≡ state_length g → Finished tb (net_of g) (node_count g) (laid t S ok) env u → AsRead t (results_from (size t) t env 0) u
-  unfolding laid layout
-  ended_as_read env u long F =
-      record {
-        whole = whole_state g (results_from (size t) t env 0) u long (results_counted t env) holds others F.recs;
-        one_each = results_counted t env;
-        results_hold = λ k x h. holds_token_lem u (result_at g k) x (holds k x h);
-        others_empty_lem = others;
-        records_zero = F.recs;
-      }
-    where
-      others : (w : ℕ) → w < wire_count g → ((k : ℕ) → k < result_count g → w ≢ result_at g k) → Holds u w none
-      others w l n = F.others w l (λ r x h e. let q = row_result r x h in n q.0 q.1 (e ∙ sym q.2))
-
-      below : (k x : ℕ) → get_elem? (results_from (size t) t env 0) k ≡ some x → k < result_count g
-      below k x h = let a = in_range (results_from (size t) t env 0) k x h in let b = results_counted t env in omega arith
-
-      holds : (k x : ℕ) → get_elem? (results_from (size t) t env 0) k ≡ some x → Holds u (result_at g k) (some x)
-      holds k x h =
-          let r = result_row k (below k x h) in
-          let e : env (word t r.0 1) ≡ x = let q = result_words_lem t env k r.0 r.1 in let p = h in cc in
-          subst₂ (λ (w z : ℕ). Holds u w (some z)) (sym (result_at_lem t k r.0 r.1)) e (F.results r.0 (word t r.0 1) r.2)
 
   -- ---- the answer COMPLETE
 

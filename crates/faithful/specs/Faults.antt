@@ -1,10 +1,10 @@
 -- A STREAM that waits with a zero step waits for ever: on any accepted graph.
 --
 --   ZeroStepped               node i is a STREAM at rest with its three tokens, and its step is 0
---   zero-step-stays           no firing changes that
---   zero-step-lasts           so no list of firings does
+--   zero_step_stays           no firing changes that
+--   zero_step_lasts           so no list of firings does
 --   ZeroStepNamed             a node waits so, and the answer is ZERO STEP and names the lowest STREAM that does
---   answers-zero-step         so it is at rest, if the graph is not complete
+--   answers_zero_step         so it is at rest, if the graph is not complete
 --
 -- Assumes nothing.
 use Rattle.std.specs.Prelude.{◌≡◌, refl, ◌≢◌, Bool, true, false, ℕ, zero, suc, ◌+◌, ◌≤◌, ◌<◌, get_or}

@@ -1,13 +1,13 @@
 -- The steps of FOR.
 --
---   step-open                 a turn starts: STREAM latches, the guard compares, each CARRY takes its initial; STREAM gives the first pair, each copy's
+--   step_open                 a turn starts: STREAM latches, the guard compares, each CARRY takes its initial; STREAM gives the first pair, each copy's
 --                             SPLIT lets its word in; GATE gives the index, each CARRY takes `d`, each ARG's SPLIT gives it, each INVARIANT takes its seed
---   step-none                 no turn: the same, but each copy's SPLIT turns its word away and each ARG's SPLIT gives the exit word
+--   step_none                 no turn: the same, but each copy's SPLIT turns its word away and each ARG's SPLIT gives the exit word
 --
 -- All that is known of STREAM, GATE, CARRY, INVARIANT and SPLIT at an opening stands here: latch-run, pair-yes, pair-no, guard-run, split-yes,
 -- split-no and the tables of effects. Another edition of the machines has other tables; that tables make the step is proved once (Course).
 -- Assumes nothing.
-use Rattle.std.specs.Prelude.{◌≡◌, refl, ◌≢◌, Bool, true, false, [], ◌∷◌, ℕ, zero, suc, ◌+◌, ◌*◌, ◌<◌, ◌/◌, ◌%◌, ◌-◌, eqb}
+use Rattle.std.specs.Prelude.{◌≡◌, refl, ◌≢◌, Bool, true, false, [], ℕ, zero, suc, ◌+◌, ◌*◌, ◌<◌, ◌/◌, ◌%◌, ◌-◌}
 use Rattle.std.proofs.Common.{ap, ◌∙◌, inl, inr, arith}
 use Rattle.std.proofs.Math.Option.{Option, none, some}
 use Rattle.word.specs.Laws.{operate_is_condition}
@@ -21,12 +21,12 @@ use Rattle.uses.specs.Machine.{State}
 use Rattle.faithful.specs.Table.{Table, named}
 use Rattle.faithful.specs.Good.{Good}
 use Rattle.faithful.specs.Gamma.{Env, Gamma}
-use Rattle.faithful.specs.Rows.{sight, Path, silent}
+use Rattle.faithful.specs.Rows.{sight}
 use Rattle.faithful.specs.Stages.{Effects, say_if}
 use Rattle.faithful.specs.Turn.{eff, at_a_for, turn, exit, nexts_to, turn_env}
-use Rattle.faithful.specs.Course.{Course, stream_turns, copy_turns, made}
+use Rattle.faithful.specs.Course.{Course, stream_turns, copy_turns}
 
-say_nil : (b : Bool) → say_if b [] ≡ []
+pub say_nil : (b : Bool) → say_if b [] ≡ []
 say_nil true = refl
 say_nil false = refl
 
@@ -68,7 +68,7 @@ module _ (tb : Table) (g : Good tb) (L s t b u c : ℕ) (q : tb.row L ≡ for s 
   initials a = env (named (tb.row a))
 
   -- stage 1
-  abbrev f1 : Effects
+  abbrev pub f1 : Effects
   f1 (op_node r) = none
   f1 (stream M) = eff true true true none none (holding (env s) (env t) (env b))
   f1 (gate M) = none
@@ -79,7 +79,7 @@ module _ (tb : Table) (g : Good tb) (L s t b u c : ℕ) (q : tb.row L ≡ for s 
   f1 (arg_split a) = none
 
   -- stages 2 and 3 where a turn starts
-  abbrev o2 : Effects
+  abbrev pub o2 : Effects
   o2 (op_node r) = none
   o2 (stream M) = eff false false false (some (env s)) (some 1) (holding (update u (env s) (env t)) (env t) (env b))
   o2 (gate M) = none
@@ -89,7 +89,7 @@ module _ (tb : Table) (g : Good tb) (L s t b u c : ℕ) (q : tb.row L ≡ for s 
   o2 (carry a) = none
   o2 (arg_split a) = none
 
-  abbrev o3 : Effects
+  abbrev pub o3 : Effects
   o3 (op_node r) = none
   o3 (stream M) = none
   o3 (gate M) = eff true true false (some (env s)) none (in_phase 1)
@@ -100,7 +100,7 @@ module _ (tb : Table) (g : Good tb) (L s t b u c : ℕ) (q : tb.row L ≡ for s 
   o3 (arg_split a) = eff true true false (some (initials a)) none rest
 
   -- and where none does
-  abbrev n2 : Effects
+  abbrev pub n2 : Effects
   n2 (op_node r) = none
   n2 (stream M) = eff false false false (some (env s)) (some 0) rest
   n2 (gate M) = none
@@ -110,7 +110,7 @@ module _ (tb : Table) (g : Good tb) (L s t b u c : ℕ) (q : tb.row L ≡ for s 
   n2 (carry a) = none
   n2 (arg_split a) = none
 
-  abbrev n3 : Effects
+  abbrev pub n3 : Effects
   n3 (op_node r) = none
   n3 (stream M) = none
   n3 (gate M) = eff true true false none none rest
@@ -126,7 +126,7 @@ module _ (tb : Table) (g : Good tb) (L s t b u c : ℕ) (q : tb.row L ≡ for s 
     env1 = turn_env tb L (env s) initials env
 
     -- of each role: stages 1, 2 and 3, its inputs, its record
-    opens : Course tb g L s t b u c q env at_a_for (turn (env s) initials) f1 o2 o3
+    pub opens : Course tb g L s t b u c q env at_a_for (turn (env s) initials) f1 o2 o3
     opens =
         record {
           of_stream = (
@@ -148,10 +148,6 @@ module _ (tb : Table) (g : Good tb) (L s t b u c : ℕ) (q : tb.row L ≡ for s 
           nexts = λ v. (refl, refl, refl);
         }
 
-    -- THE STEP of a FOR that opens
-    pub step_open : Path tb g env σ (tb.first L) env1 (λ M. say_if (eqb M L) (1 ∷ [])) (silent tb g)
-    step_open = made tb g L s t b u c q env at_a_for (turn (env s) initials) f1 o2 o3 opens σ G (λ M. say_if (eqb M L) (1 ∷ [])) (silent tb g) (λ M. refl) (λ M. say_nil (eqb M L))
-
   -- ---- no turn
   module _ (no-turn : condition c (env s) (env b) ≡ 0) where
     abbrev pub exits : Env
@@ -160,7 +156,7 @@ module _ (tb : Table) (g : Good tb) (L s t b u c : ℕ) (q : tb.row L ≡ for s 
     abbrev pub env0 : Env
     env0 = nexts_to tb L exits env
 
-    passes : Course tb g L s t b u c q env at_a_for (exit exits) f1 n2 n3
+    pub passes : Course tb g L s t b u c q env at_a_for (exit exits) f1 n2 n3
     passes =
         record {
           of_stream = (inr (λ _ _ _. rw q (latch_run (5 * u + c) (env s) (env t) (env b) nz)), inr (λ _ _ _. rw q (pair_no u c (env s) (env t) (env b) none none none (g.for_code L s t b u c q) no-turn)), inl refl, refl, refl);
@@ -175,7 +171,3 @@ module _ (tb : Table) (g : Good tb) (L s t b u c : ℕ) (q : tb.row L ≡ for s 
           copies = λ v. (refl, refl, refl);
           nexts = λ v. (refl, refl, refl);
         }
-
-    -- THE STEP of a FOR of no turn
-    pub step_none : Path tb g env σ (suc (tb.last L)) env0 (λ M. say_if (eqb M L) (0 ∷ [])) (silent tb g)
-    step_none = made tb g L s t b u c q env at_a_for (exit exits) f1 n2 n3 passes σ G (λ M. say_if (eqb M L) (0 ∷ [])) (silent tb g) (λ M. refl) (λ M. say_nil (eqb M L))

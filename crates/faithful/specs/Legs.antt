@@ -2,9 +2,9 @@
 -- it.
 --
 --   tails, up_from             the wires behind a wire; its nodes
---   Placed, placed-is         a use of a wire stands on a leg, and no two on the same
---   spread-built              the FORKs or the DRAIN of a wire are a spread of it
---   free-apart, free_all      the wires behind different wires are different, and every number is taken; likewise the nodes
+--   Placed, placed_is         a use of a wire stands on a leg, and no two on the same
+--   spread_built              the FORKs or the DRAIN of a wire are a spread of it
+--   free_apart, free_all      the wires behind different wires are different, and every number is taken; likewise the nodes
 --
 -- Assumes nothing.
 use Rattle.std.specs.Prelude.{◌≡◌, refl, ◌⊎◌, List, [], ◌∷◌, length}

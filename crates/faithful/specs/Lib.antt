@@ -1,4 +1,4 @@
--- The lowered table means what it says. Start with Statements.
+-- The lowered table means what it says. Start with Statements. What rests on other theorems of the crate stands in proofs/.
 -- A table by its structure, and its configuration where the reading stands.
 pub mod Table
 pub mod Members
@@ -16,25 +16,16 @@ pub mod End
 -- Tables of words have that structure, and the reading is followed.
 pub mod Tables
 pub mod Carried
-pub mod Sound
 pub mod Conditions
-pub mod Following
-pub mod Endless
 -- The lowered words lay out the table.
-pub mod Sources
 pub mod Legs
 pub mod Begin
 pub mod Passed
 pub mod Finish
-pub mod Places
-pub mod Loading
 -- Orders on the lowered words.
-pub mod Order
 pub mod EndState
 pub mod Endings
 pub mod Faults
-pub mod Waiting
-pub mod Silent
 pub mod Statements
 pub mod NotIdle
 pub mod NotSo

@@ -1,7 +1,7 @@
 -- One loop: effects of its roles, the values that they give, and the uses that they take.
 --
 --   only                      effects of the loop's roles alone
---   loop-stage                those of them that are ready fire together
+--   loop_stage                those of them that are ready fire together
 --   Fill, fill                which of the loop's nodes gives on the wire of a value in a body: the index, an ARG, a copy, an exit word, none
 --   Taking, taking            whether one of them takes a use
 --
@@ -15,7 +15,7 @@ use Rattle.std.proofs.Math.Option.{Option, none, some}
 use Rattle.std.proofs.Math.Decide.{ℕ_discrete}
 use Rattle.step.specs.Kinds.{Input, Output, out0, out1}
 use Rattle.step.specs.Firing.{Effect}
-use Rattle.table.specs.Bodies.{Row, input, const, op, pick, for, arg, next, end, out, unknown}
+use Rattle.table.specs.Bodies.{arg, next}
 use Rattle.lowered.specs.Lists.{Among, among_left, among_right}
 use Rattle.lowered.specs.Roles.{Role, op_node, stream, gate, guard, copy_split, copy_invariant, carry, arg_split, Wire, output, Use, into}
 use Rattle.uses.specs.Machine.{State, give_by, take_by, given, taken, after, Ready, Steps, stage_cover, those}

@@ -7,7 +7,7 @@
 --
 -- Assumes nothing.
 use Rattle.std.specs.Prelude.{◌≡◌, refl, ◌≢◌, Bool, true, false, ◌&&◌, ℕ, T, eqb}
-use Rattle.std.proofs.Common.{sym, ap, ◌∙◌, subst, arith, eqb→eq}
+use Rattle.std.proofs.Common.{sym, ◌∙◌, subst, arith, eqb→eq}
 use Rattle.std.proofs.Math.Dec.{eqb_refl}
 use Rattle.table.specs.Bodies.{Row, input, const, op, pick, for, arg, next, end, out, unknown}
 use Rattle.lowered.specs.Roles.{Role, op_node, stream, gate, guard, copy_split, copy_invariant, carry, arg_split}

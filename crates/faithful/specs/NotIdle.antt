@@ -1,23 +1,23 @@
 -- None of this is idle: the register's tables pass the check, their readings end, and the theorems speak of their graphs.
 --
---   the-sum-of-five-means-ten         P10: every order that rests leaves 10, and five ones and a zero have passed
---   the-end-of-five                   all words of the state that it leaves
---   no-turn-leaves-nothing            P11: every order that rests leaves 0; one zero has passed raw, nothing gated, and nothing stays behind
---   the-inner-loop-opens-anew         P12: the result is 5; the inner loop's openings have 0, 1 and 2 turns
---   a-zero-step-is-answered           the sum table with step 0: every order that rests answers ZERO STEP at node 0
---   an-endless-loop-never-rests       a loop that goes on while its index is at most 0, and it stays 0: no order rests
+--   the_sum_of_five_means_ten         P10: every order that rests leaves 10, and five ones and a zero have passed
+--   the_end_of_five                   all words of the state that it leaves
+--   no_turn_leaves_nothing            P11: every order that rests leaves 0; one zero has passed raw, nothing gated, and nothing stays behind
+--   the_inner_loop_opens_anew         P12: the result is 5; the inner loop's openings have 0, 1 and 2 turns
+--   a_zero_step_is_answered           the sum table with step 0: every order that rests answers ZERO STEP at node 0
+--   an_endless_loop_never_rests       a loop that goes on while its index is at most 0, and it stays 0: no order rests
 --
 -- Assumes nothing.
 use Rattle.std.specs.Prelude.{◌≡◌, refl, Bool, true, cond, List, [], ◌∷◌, ◌++◌, ℕ, zero, suc, eqb, replicate}
-use Rattle.std.proofs.Common.{ap, ap₂, ◌∙◌, arith}
+use Rattle.std.proofs.Common.{ap₂, arith}
 use Rattle.std.proofs.Math.Option.{none, some}
 use Rattle.word.specs.Words.{condition, update}
 use Rattle.graph.specs.Below.{joined}
 use Rattle.graph.specs.Graph.{result_at}
 use Rattle.graph.specs.SumGraph.{sum_graph}
 use Rattle.state.specs.State.{token_at}
-use Rattle.state.specs.Run.{COMPLETE, ZERO-STEP, outcome}
-use Rattle.confluence.specs.Statements.{Fires, AtRest, put_on_wire}
+use Rattle.state.specs.Run.{COMPLETE, outcome}
+use Rattle.confluence.specs.Statements.{put_on_wire}
 use Rattle.table.specs.Rows.{size, field_at, used_words, operand_count, first_operand, sort_of, wanted_sort}
 use Rattle.table.specs.Counted.{rows_of}
 use Rattle.table.specs.Scan.{after, stack_at, body_of, read_stack, reads, home_by, home, body_open, end_passed, visible}
@@ -25,13 +25,11 @@ use Rattle.table.specs.Check.{Refusal, answer, table_refusal, length_right, kind
 use Rattle.table.specs.Bodies.{row_by, row_at, ends, end_from, end_of, args_from, args_of, first_of, is_arg, is_next, arg_of, next_of}
 use Rattle.table.specs.Cases.{const, loop, arg, next, close, out, sum_table, sum_by, p12_table, sum_passes, p12_passes}
 use Rattle.reading.specs.Reading.{Env, Opening, at, next_named, one_turn, end_step, first_words, begin, turn, leave, step, and_then, read_from, read}
-use Rattle.reading.specs.Cases.{p10_reads_10, p11_reads_0, p12_reads_5, zero_step_at_row_3}
 use Rattle.lowered.specs.Lower.{lowered_words}
 use Rattle.lowered.specs.Room.{ROOM, in_limits, refused_by, check_answer}
-use Rattle.lowered.specs.Cases.{lowering_computes, sum_table_lowers_to_the_102_words}
-use Rattle.faithful.specs.Conditions.{turns_of}
+use Rattle.lowered.specs.Cases.{lowering_computes}
 use Rattle.faithful.specs.EndState.{end_state}
-use Rattle.faithful.specs.Statements.{loaded_table, stream_node, raw_wire, gated_wire, lowered_table_means_its_reading, the_end_state, zero_step_is_named, endless_reading_never_rests}
+use Rattle.faithful.specs.Statements.{loaded_table, stream_node, raw_wire, gated_wire}
 
 -- everything that a refusal computes with, and everything that a reading does
 unfoldable pub check_computes : ℕ
@@ -69,35 +67,10 @@ pub record Leaves (t inputs : List ℕ) (L word : ℕ) (raw gated : List ℕ) (o
   pub told_gated : put_on_wire (lowered_words t) order (loaded_table t inputs) (gated_wire t L) ≡ gated
   pub completes : (outcome (lowered_words t) u).answer ≡ COMPLETE
 
-pub the_sum_of_five_means_ten : (order u : List ℕ) → Fires (lowered_words sum_table) order (loaded_table sum_table (5 ∷ [])) u → AtRest (lowered_words sum_table) u
-    → Leaves sum_table (5 ∷ []) 3 10 (1 ∷ 1 ∷ 1 ∷ 1 ∷ 1 ∷ 0 ∷ []) (1 ∷ 1 ∷ 1 ∷ 1 ∷ 0 ∷ []) order u
-unfolding turns_of
-the_sum_of_five_means_ten order u f h =
-    let e = ((lowered_table_means_its_reading sum_table sum_is_checked (5 ∷ []) (10 ∷ []) _ p10_reads_10).1 order u f).ends h in
-    record { leaves = e.state.results_hold 0 10 refl; told_raw = e.conditions.raw 3 refl; told_gated = e.conditions.gated 3 refl; completes = e.answer }
-
 -- 22 wires and 13 nodes: 44 words and 52
-five_listed : end_state sum_graph (10 ∷ []) ≡ replicate 20 0 ++ (1 ∷ 10 ∷ replicate 74 0)
+pub five_listed : end_state sum_graph (10 ∷ []) ≡ replicate 20 0 ++ (1 ∷ 10 ∷ replicate 74 0)
 unfolding end_state joined sum_graph
 five_listed = refl
-
-pub the_end_of_five : (order u : List ℕ) → Fires (lowered_words sum_table) order (loaded_table sum_table (5 ∷ [])) u → AtRest (lowered_words sum_table) u
-    → u ≡ replicate 20 0 ++ (1 ∷ 10 ∷ replicate 74 0)
-the_end_of_five order u f h = the_end_state sum_table sum_is_checked (5 ∷ []) (10 ∷ []) _ p10_reads_10 order u f h ∙ ap (λ (g : List ℕ). end_state g (10 ∷ [])) sum_table_lowers_to_the_102_words ∙ five_listed
-
-pub no_turn_leaves_nothing : (order u : List ℕ) → Fires (lowered_words sum_table) order (loaded_table sum_table (0 ∷ [])) u → AtRest (lowered_words sum_table) u
-    → Leaves sum_table (0 ∷ []) 3 0 (0 ∷ []) [] order u
-unfolding turns_of
-no_turn_leaves_nothing order u f h =
-    let e = ((lowered_table_means_its_reading sum_table sum_is_checked (0 ∷ []) (0 ∷ []) _ p11_reads_0).1 order u f).ends h in
-    record { leaves = e.state.results_hold 0 0 refl; told_raw = e.conditions.raw 3 refl; told_gated = e.conditions.gated 3 refl; completes = e.answer }
-
-pub the_inner_loop_opens_anew : (order u : List ℕ) → Fires (lowered_words p12_table) order (loaded_table p12_table []) u → AtRest (lowered_words p12_table) u
-    → Leaves p12_table [] 5 5 (0 ∷ 1 ∷ 0 ∷ 1 ∷ 1 ∷ 0 ∷ []) (0 ∷ 1 ∷ 0 ∷ []) order u
-unfolding turns_of
-the_inner_loop_opens_anew order u f h =
-    let e = ((lowered_table_means_its_reading p12_table p12_is_checked [] (5 ∷ []) _ p12_reads_5).1 order u f).ends h in
-    record { leaves = e.state.results_hold 0 5 refl; told_raw = e.conditions.raw 5 refl; told_gated = e.conditions.gated 5 refl; completes = e.answer }
 
 -- the sum table with step 0
 zero_passes : table_refusal (sum_by 0) ≡ answer 0 0
@@ -108,19 +81,13 @@ zero_has_room : in_limits (sum_by 0) ≡ true
 unfolding in_limits lowering_computes
 zero_has_room = refl
 
-zero_is_checked : (check_answer (sum_by 0)).number ≡ 0
+pub zero_is_checked : (check_answer (sum_by 0)).number ≡ 0
 unfolding check_answer refused_by
 zero_is_checked = checked (size (sum_by 0)) (table_refusal (sum_by 0)) (in_limits (sum_by 0)) zero_passes zero_has_room
 
-zero_outermost : (body_of (sum_by 0) 3 ≡ size (sum_by 0)) × (stream_node (sum_by 0) 3 ≡ 0)
+pub zero_outermost : (body_of (sum_by 0) 3 ≡ size (sum_by 0)) × (stream_node (sum_by 0) 3 ≡ 0)
 unfolding lowering_computes
 zero_outermost = (refl, refl)
-
-pub a_zero_step_is_answered : (order u : List ℕ) → Fires (lowered_words (sum_by 0)) order (loaded_table (sum_by 0) (5 ∷ [])) u → AtRest (lowered_words (sum_by 0)) u
-    → ((outcome (lowered_words (sum_by 0)) u).answer ≡ ZERO-STEP) × ((outcome (lowered_words (sum_by 0)) u).node ≡ 0)
-a_zero_step_is_answered order u f h =
-    let z = zero_step_is_named (sum_by 0) zero_is_checked (5 ∷ []) 3 [] zero_step_at_row_3 order u f h in
-    (z.met.answer, z.own zero_outermost.0 ∙ zero_outermost.1)
 
 -- ---- a loop for ever: the index starts at 0, is multiplied by 1, and 0 <= 0
 
@@ -159,6 +126,3 @@ stay_reads_for_ever zero = refl
 stay_reads_for_ever (suc zero) = refl
 stay_reads_for_ever (suc (suc zero)) = refl
 stay_reads_for_ever (suc (suc (suc k))) = (in_the_body k _ _ refl refl refl).0
-
-pub an_endless_loop_never_rests : (order u : List ℕ) → Fires (lowered_words stay_table) order (loaded_table stay_table []) u → AtRest (lowered_words stay_table) u → ⊥
-an_endless_loop_never_rests = endless_reading_never_rests stay_table stay_is_checked [] stay_reads_for_ever

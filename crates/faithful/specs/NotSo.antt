@@ -2,16 +2,16 @@
 --
 -- It is not so that the node named is always the STREAM of the loop at whose FOR row the reading meets the zero step. The graph does not wait for
 -- the reading: a loop around it may have gone on to its next turn and met a zero step further up.
---     indexSteps, index-steps-is-checked, index-steps-at-row-4     the reading meets the zero step at row 4
---     the-loop-at-row-3-is-named                                   every order that rests names the STREAM of row 3; index-steps-rests: there is one
+--     index_steps, index_steps_is_checked, index_steps_at_row_4     the reading meets the zero step at row 4
+--     the_loop_at_row_3_is_named                                   every order that rests names the STREAM of row 3; index_steps_rests: there is one
 --
 -- Nor that the node named is of no loop that the reading has left: inside a loop, one that was left may be met again.
---     leftLoop, left-loop-is-checked, left-loop-at-row-5           the reading leaves the loop at row 3 and meets the zero step at row 5
---     the-left-loop-is-named                                       every order that rests names the STREAM of row 3; left-loop-rests: there is one
+--     left_loop, left_loop_is_checked, left_loop_at_row_5           the reading leaves the loop at row 3 and meets the zero step at row 5
+--     the_left_loop_is_named                                       every order that rests names the STREAM of row 3; left_loop_rests: there is one
 --
 -- Nor that every order rests where the reading meets a zero step. A loop further down that takes nothing from it may go on for ever.
---     besideEndless, beside-endless-is-checked, beside-endless-at-row-2     the reading meets the zero step at row 2
---     beside-endless-never-rests                                            no order rests
+--     beside_endless, beside_endless_is_checked, beside_endless_at_row_2     the reading meets the zero step at row 2
+--     beside_endless_never_rests                                            no order rests
 --
 -- Assumes nothing.
 use Rattle.std.specs.Prelude.{◌≡◌, refl, true, List, [], ◌∷◌, ◌++◌, ℕ, zero, suc, ◌<◌, length, replicate}

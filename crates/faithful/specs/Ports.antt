@@ -1,7 +1,7 @@
 -- What the inputs of a loop's nodes read, each by its role.
 --
 --   Port, port                an output of the same loop, a value that waits until the FOR or until the END, or nothing
---   PortIs, port-is           it does
+--   PortIs, port_is           it does
 --   kinds                     a role holds its record inside the loop, or holds nothing
 --
 -- Assumes nothing.

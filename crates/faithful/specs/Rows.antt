@@ -1,9 +1,9 @@
 -- The reading's steps of one row that opens and shuts no loop.
 --
---   step-plain                INPUT, CONST, NEXT, OUT: nothing fires, and the configuration is that of the next row
---   step_op, step-pick        OP and PICK: the node fires
+--   step_plain                INPUT, CONST, NEXT, OUT: nothing fires, and the configuration is that of the next row
+--   step_op, step_pick        OP and PICK: the node fires
 --   Path                      firings that lead to where the reading stands next, with their words on the loops' conditions
---   token-at                  what waits until row pc is there at pc
+--   token_at_lem              what waits until row pc is there at pc
 --
 -- Assumes nothing.
 use Rattle.std.proofs.Math.Path.{◌≡◌, refl, ap, subst}
@@ -18,7 +18,7 @@ use Rattle.std.proofs.Math.Decide.{ℕ_discrete}
 use Rattle.std.proofs.Math.Dec.{eqb_refl}
 use Rattle.word.specs.Words.{operate}
 use Rattle.step.specs.Kinds.{Input, in0, in1, in2, Output, out0, out1, PICK}
-use Rattle.step.specs.Firing.{View, Effect, Program, perform, takes, room}
+use Rattle.step.specs.Firing.{View, Effect, Program, perform, takes}
 use Rattle.step.specs.Machines.{program, rest}
 use Rattle.step.specs.declared.Record.{Record}
 use Rattle.table.specs.Bodies.{Row, input, const, op, pick, for, arg, next, end, out, unknown}
@@ -27,7 +27,7 @@ use Rattle.uses.specs.Machine.{State, give_by, take_by, next_by, put, unless_tak
 use Rattle.faithful.specs.Table.{Table, Slot, val, inner, absent, IsFor, wire_of, since, slot, slot_wire, src, is_op, is_start, Real, program_of, plan}
 use Rattle.faithful.specs.Good.{Inner, Good, Source, from_start, from_op, from_for, from_arg, from_next, from_copy, source, When, by_op, by_for, by_end, by_out, when, Inward, inward}
 use Rattle.faithful.specs.Members.{no_op}
-use Rattle.faithful.specs.Gamma.{Env, Inside, Shows, scope, held, Gamma, shows_same, shows_none, shows_some, before, head_row, held_same}
+use Rattle.faithful.specs.Gamma.{Env, Inside, Shows, scope, held, Gamma, shows_same, shows_none, shows_some, head_row, held_same}
 
 -- env with the word w at row r
 abbrev pub set_by : Bool → ℕ → ℕ → ℕ

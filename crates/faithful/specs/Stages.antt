@@ -1,7 +1,7 @@
 -- Three stages of one loop's nodes, one after the other, from tables of effects by role.
 --
 --   Effects                   an effect or none for each role
---   put-late, put-nothing     the second and third stage at a use that is empty before them; at one on which they give nothing
+--   put_late, put_nothing     the second and third stage at a use that is empty before them; at one on which they give nothing
 --   Link, link, flow          an inner use of a loop, and what a stage does to one
 --   S1, S2, S3                the states after one, two and three stages
 --   left1, at1, .., inner3    what stands on the inner uses
@@ -13,14 +13,14 @@ use Rattle.std.specs.Prelude.{◌≡◌, refl, ◌⊎◌, Bool, true, false, ◌
 use Rattle.std.proofs.Common.{sym, ap, ap₂, ◌∙◌, subst, inl, inr, append_assoc, append-nil, arith}
 use Rattle.std.proofs.Math.Option.{Option, none, some}
 use Rattle.std.proofs.Math.Decide.{ℕ_discrete}
-use Rattle.step.specs.Kinds.{Input, in0, in1, Output, out0, out1}
-use Rattle.step.specs.Firing.{Effect, perform, gives, room}
+use Rattle.step.specs.Kinds.{Input, Output}
+use Rattle.step.specs.Firing.{Effect, perform, gives}
 use Rattle.table.specs.Bodies.{arg}
 use Rattle.lowered.specs.Roles.{Role, op_node, stream, gate, guard, copy_split, copy_invariant, carry, arg_split, Wire, output, Use, into}
 use Rattle.uses.specs.Machine.{State, give_by, take_by, next_by, put, unless_taken, listed, given, taken, view_of, after, Ready, Steps, steps_append}
-use Rattle.faithful.specs.Table.{Table, Slot, val, inner, IsFor, wire_of, slot, slot_wire, src, is_arg, Real, program_of, plan}
+use Rattle.faithful.specs.Table.{Table, Slot, val, inner, IsFor, wire_of, slot, slot_wire, src, Real, program_of, plan}
 use Rattle.faithful.specs.Members.{in_loop, arg_row, in_two, in_arg, is_eqb, in_one}
-use Rattle.faithful.specs.Good.{Good, Inward, inward}
+use Rattle.faithful.specs.Good.{Good, inward}
 use Rattle.faithful.specs.Rows.{put_drop_none, src_cases}
 use Rattle.faithful.specs.Loop.{only, only_yes, only_no, loop_stage, takes_no}
 

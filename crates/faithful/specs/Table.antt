@@ -1,7 +1,7 @@
 -- A table with what one scan says of it, and its graph before forks and drains: each node by its role, each use by what it reads.
 --
 --   Table                     rows, bodies with their first and last row, homes, ARGs and NEXTs, what is carried into a loop
---   wireOf                    the wire on which a value comes to a body
+--   wire_of                   the wire on which a value comes to a body
 --   born, since               from which row on a value is there, at home and elsewhere
 --   Slot, slot, src           what a use reads: a value in a body until a row, or a wire of its own loop
 --   program_of, Real, HasOut      what a role does, which roles the table has, and their outputs

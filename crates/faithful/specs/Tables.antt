@@ -1,8 +1,8 @@
 -- A table of words as an abstract table: each row as the table of kinds prints it, each body with its first and last row.
 --
 --   table_of                   the table that the words say
---   row-at, row-past          a row of it is the words' row; past the last row there is none
---   kind-of-row               a row's form tells its kind, and that it is in the table
+--   row_at_lem, row_past      a row of it is the words' row; past the last row there is none
+--   kind_of_row               a row's form tells its kind, and that it is in the table
 --
 -- Assumes nothing.
 use Rattle.std.specs.Prelude.{◌≡◌, ◌≢◌, cond, ◌&&◌, List, ℕ, zero, suc, ◌≤◌, ◌<◌, eqb, leb, ltb}

@@ -1,9 +1,9 @@
 -- What the steps of FOR and END share: the words that a turn sets, and the uses and records that it leaves alone.
 --
---   turnEnv, nextsTo          the index and the ARGs at a turn's beginning; the NEXTs when the loop is left
+--   turn_env, nexts_to        the index and the ARGs at a turn's beginning; the NEXTs when the loop is left
 --   From, To                  where a step begins: at FOR, at END; where it leads: into a turn, out of the loop
 --   live_same, word_same      a use that the step does not touch is live after it exactly if before, with the same word
---   inside-same, outer_same   likewise for the bodies that pc is inside, and the words of the loops among them
+--   inside_same, outer_same   likewise for the bodies that pc is inside, and the words of the loops among them
 --   gone, body_live, exit_live
 --                             what the step takes is not live after it, and what it gives is
 --

@@ -1,6 +1,6 @@
 -- What the inner functions of a firing promise one another.
 --
---   actStores, Room           the stores of an act on wires of these numbers, with the record left, and that those wires are in the state
+--   act_stores, Room           the stores of an act on wires of these numbers, with the record left, and that those wires are in the state
 --   Reads                     a row struct holds the words of node i
 --   Within, Sees              the wires of a row are in the state; what is seen there
 --   Placed                    what a caller of `fire_node` has checked: the graph's shape, that node i is one of its nodes, that its wires are

@@ -1,9 +1,9 @@
 -- Forks and drains by number: how many a wire adds, which numbers are free for them, and their rows.
 --
---   addedNodes, addedWires        what k uses of a wire add
---   freeOf                        the first free number when a wire's turn comes
+--   added_nodes, added_wires        what k uses of a wire add
+--   free_of                        the first free number when a wire's turn comes
 --   Freed                         a table of the free numbers
---   forkWords                     the words of the forks of one wire
+--   fork_words                     the words of the forks of one wire
 --
 -- Assumes nothing.
 use Prim.Native.Nat.{ℕ, zero, suc, ◌+◌, ◌-◌, ◌*◌, ◌<◌, ◌≤◌}

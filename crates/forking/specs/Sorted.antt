@@ -1,9 +1,9 @@
 -- The sort of each wire, noted row by row at the numbers of the row's outputs.
 --
---   sortedRow         the table after one row
---   sortedRows        after the first n rows
+--   sorted_row         the table after one row
+--   sorted_rows        after the first n rows
 --   FirstFits         a row's outputs have places
---   outputs-fit, sorts-of     both hold of rows that are right for a table
+--   outputs_fit, sorts_of     both hold of rows that are right for a table
 --
 -- Assumes nothing.
 use Prim.Native.Nat.{ℕ, zero, suc, ◌+◌, ◌*◌, ◌<◌, ◌≤◌}

@@ -1,9 +1,9 @@
 -- How often each wire is used, tallied in a table with a place for each wire.
 --
 --   Place, Below          an input's source is X or has a place; the table's words are small
---   oneMore, tallied      the table after one use, after a list of uses
---   tallied-at            a word has grown by how often its wire stands in the list
---   tallied-below         and by no more than the list's length
+--   one_more, tallied      the table after one use, after a list of uses
+--   tallied_at            a word has grown by how often its wire stands in the list
+--   tallied_below         and by no more than the list's length
 --   filled_more           a table filled one place further
 --
 -- Assumes nothing.

@@ -1,10 +1,10 @@
 -- The words of a graph from scratch rows: each part as a list, one number after another.
 --
---   rowInputs, rowOuts            the sources of a row's inputs, of a result
+--   row_inputs, row_outs            the sources of a row's inputs, of a result
 --   Sourced                       they are X or have a place
---   standOf                       the wire on which the next use of a source stands
---   rowWords, outWords            a row's words, a result's word
---   sets-append                   one part behind another
+--   stand_of                       the wire on which the next use of a source stands
+--   row_words, out_words            a row's words, a result's word
+--   sets_append                   one part behind another
 --
 -- Assumes nothing.
 use Rattle.std.specs.Prelude.{ℕ, zero, suc, ◌+◌, ◌*◌, ◌<◌, ◌≤◌, ◌≡◌, cond, List, [], ◌∷◌, ◌++◌, eqb, length, get_or, set}

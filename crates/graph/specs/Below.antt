@@ -1,14 +1,14 @@
 -- What is said of all numbers below n: that each passes a test, the sum of their numbers, their lists joined in order;
 -- and how often a number stands in a list.
 --
---   everyFrom, every              a test of each number
+--   every_from, every              a test of each number
 --   total                         the sum of a number for each
 --   joined                        a list for each, joined in order
 --   times                         how often a number stands in a list
---   every-go, -stop, -end         how a loop follows `every`; every-each is what it then knows
---   total-within, total-somewhere                    where a number lies in a sum
+--   every_go, -stop, -end         how a loop follows `every`; every-each is what it then knows
+--   total_within, total_somewhere                    where a number lies in a sum
 --   joined_at                                        where a list stands in the joined list
---   times-append, -within, -of-two, -somewhere       how often a number stands in a joined list
+--   times_append, -within, -of-two, -somewhere       how often a number stands in a joined list
 --
 -- Assumes nothing.
 use Prim.Native.Nat.{ℕ, zero, suc, ◌+◌, ◌-◌, ◌<◌, ◌≤◌}

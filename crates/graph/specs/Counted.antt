@@ -1,8 +1,8 @@
 -- A table of how often each wire is read, counted up to two: once or not is all that refusal 14 asks.
 --
---   onceMore          0 becomes 1, all else 2
+--   once_more          0 becomes 1, all else 2
 --   counted           a table after a list of wires was read
---   counted-once      the table of no reads, then of a list: its word at w is 1 exactly where w stands once in the list
+--   counted_once      the table of no reads, then of a list: its word at w is 1 exactly where w stands once in the list
 --
 -- Assumes nothing.
 use Rattle.std.specs.Prelude.{ℕ, zero, suc, ◌+◌, ◌<◌, ◌≡◌, refl, Bool, true, false, List, [], ◌∷◌, ◌++◌, eqb, get_or, set, length, replicate}

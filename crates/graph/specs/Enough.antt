@@ -1,6 +1,6 @@
 -- The facts of an accepted graph are enough: whoever has them need not compute the refusal.
 --
---   accepted-is-not-refused       the converse of `accepted`
+--   accepted_is_not_refused       the converse of `accepted`
 --
 -- Idea. Each test is made of tests of one start, node, wire or result; each of these is one of the facts.
 -- Assumes nothing.

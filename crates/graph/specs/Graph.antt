@@ -1,12 +1,12 @@
 -- A token graph as words: docs/RULES.md, section 'The graph'. `g` is the whole list of words.
 --
---   nodeCount, wireCount, startCount, resultCount    the header
---   startKindAt, startWordAt, result_at, rowPlace     where starts, results and rows stand
---   Node, nodeAt                                     a node, read from its seven words
---   input_at, outputAt                                the wire on each place of a node
+--   node_count, wire_count, start_count, result_count    the header
+--   start_kind_at, start_word_at, result_at, row_place     where starts, results and rows stand
+--   Node, node_at                                     a node, read from its seven words
+--   input_at, output_at                                the wire on each place of a node
 --   first_at                                          the number that the first output of a node must have
 --   reads                                            every wire read, by node and input position, then the results
---   wireSorts, sortAt                                the sort of every wire, by wire number
+--   wire_sorts, sort_at                                the sort of every wire, by wire number
 --
 -- Assumes nothing.
 use Rattle.std.specs.Prelude.{ℕ, ◌+◌, ◌*◌, ◌≡◌, refl, Bool, List, [], ◌∷◌, ◌++◌, eqb, ltb, length, get_or, take, replicate}

@@ -1,11 +1,11 @@
 -- The refusals of a graph, 11 to 15: docs/RULES.md, section 'Refusal numbers'. 'Each test is made over the whole graph before the next'.
 --
---   hasShape       11 SHAPE       the counts are in their limits and the length is theirs
---   rowsRight      12 NODE        starts and rows are right, and W is S plus all outputs
---   wiresBelow     13 WIRE        every input and result is below W
---   readOnce       14 READERS     every wire is read once
---   sortsAgree     15 SORT        every input and result has the sort of its wire
---   graphRefusal                  the first of them that fails, else 0
+--   has_shape       11 SHAPE       the counts are in their limits and the length is theirs
+--   rows_right      12 NODE        starts and rows are right, and W is S plus all outputs
+--   wires_below     13 WIRE        every input and result is below W
+--   read_once       14 READERS     every wire is read once
+--   sorts_agree     15 SORT        every input and result has the sort of its wire
+--   graph_refusal                  the first of them that fails, else 0
 --
 -- Assumes nothing.
 use Rattle.std.specs.Prelude.{ℕ, ◌+◌, ◌*◌, ◌≤◌, ◌<◌, ◌≡◌, Bool, true, false, ◌&&◌, List, eqb, ltb, leb, get_or, length}

@@ -2,12 +2,12 @@
 --
 --   one_reader            two inputs on one wire are one input
 --   one_writer            two outputs on one wire are one output
---   input-below, output-below, start-unwritten           where wires of inputs and outputs lie
---   result-unread, results-differ                        a result's wire is no input's, and no other result's
---   input-sorted, output-sorted, result-sorted, start-sorted     the sort of a wire is that of its places
---   a-sort-for-each-wire  the list of sorts is as long as there are wires
---   every-wire-read       every wire is on an input or is a result
---   every-wire-written    every wire is a start or on an output
+--   input_below_lem, output_below, start_unwritten           where wires of inputs and outputs lie
+--   result_unread, results_differ                        a result's wire is no input's, and no other result's
+--   input_sorted_lem, output_sorted, result_sorted_lem, start_sorted     the sort of a wire is that of its places
+--   a_sort_for_each_wire  the list of sorts is as long as there are wires
+--   every_wire_read       every wire is on an input or is a result
+--   every_wire_written    every wire is a start or on an output
 --
 -- Idea. Every read adds one to how often its wire stands in `reads`, which is once, so two reads are one. The outputs of node i are the
 -- numbers from `first_at g i` up to `first_at g (i + 1)`, so the outputs of different nodes lie apart.

@@ -1,9 +1,9 @@
 -- WHAT LOWERING WRITES IS ACCEPTED: a table that passes 1 to 9 and has room lowers to a graph that check_graph does not refuse.
 --
---   inputs-are-numbered               the inputs are numbered 0, 1, .. in order
---   inputs-are-the-rows               there are as many as INPUT rows
---   lowered-graph-is-accepted         the facts of an accepted graph
---   lowered-graph-is-not-refused      graphRefusal is 0
+--   inputs_are_numbered               the inputs are numbered 0, 1, .. in order
+--   inputs_are_the_rows               there are as many as INPUT rows
+--   lowered_graph_is_accepted         the facts of an accepted graph
+--   lowered_graph_is_not_refused      graph_refusal is 0
 --
 -- Assumes nothing.
 use Prim.Native.Nat.{ℕ, zero, suc, ◌+◌, ◌-◌, ◌≤◌, ◌<◌}

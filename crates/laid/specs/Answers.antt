@@ -1,10 +1,10 @@
 -- What the two entries' answers have to do with each other.
 --
---   check-passes-exactly-if-lower-does        with lent words enough
---   lower-refuses-too-little-room             with too few, and only then, what passes the check is refused by lower
---   refusal-leaves-the-lent-words             all of them
---   success-writes-the-graph-first            and leaves the rest
---   written-graph-is-accepted                 what lower writes, check_graph does not refuse
+--   check_passes_exactly_if_lower_does        with lent words enough
+--   lower_refuses_too_little_room             with too few, and only then, what passes the check is refused by lower
+--   refusal_leaves_the_lent_words             all of them
+--   success_writes_the_graph_first            and leaves the rest
+--   written_graph_is_accepted                 what lower writes, check_graph does not refuse
 --
 -- Assumes nothing.
 use Prim.Native.Nat.{ℕ, zero, suc, ◌+◌, ◌≤◌, ◌<◌}

@@ -1,9 +1,9 @@
 -- The numbers of nodes and wires as running sums over the rows: what a program adds up going down the table.
 --
---   nodeBase, wireBase        the first node and the first output number of a row
---   copyPlace                 the place of a value among those carried into a loop
---   node-base-op, -for, -arg, -other, and wire-base-op, ..      what each kind of row adds
---   start-number              an INPUT or CONST row's wire has the row's own number
+--   node_base, wire_base      the first node and the first output number of a row
+--   copy_place                the place of a value among those carried into a loop
+--   node_base_op, -for, -arg, -other, and wire_base_op, ..      what each kind of row adds
+--   start_number              an INPUT or CONST row's wire has the row's own number
 --   op-number, stream-number, gate-number, guard_number, copy-number, carry-number, arg-number
 --
 -- Assumes nothing.

@@ -1,14 +1,14 @@
 -- Forks counted: the wire on which a use stands follows from numbers alone: its source, how many uses that has, and how many of them came
 -- before.
 --
---   sourceNumber, useWires        the number of each use's source, in the order of uses
---   legAt                         the leg of the j-th of k uses
---   leg-by-number                 `leg_of` is `leg_at`
---   users-are-counted             a wire's uses are as often as its number stands in `use_wires`
---   free-is-a-running-sum         the free numbers are a running sum over the wires before
---   stands-by-numbers             the wire of a use, by counting
---   wire-total-by-numbers, node-total-by-numbers      the counts that ROOM asks for
---   fork-nodes-by-number, fork-wires-by-number
+--   source_number, use_wires      the number of each use's source, in the order of uses
+--   leg_at                        the leg of the j-th of k uses
+--   leg_by_number                 `leg_of` is `leg_at`
+--   users_are_counted             a wire's uses are as often as its number stands in `use_wires`
+--   free_is_a_running_sum         the free numbers are a running sum over the wires before
+--   stands_by_numbers             the wire of a use, by counting
+--   wire_total_by_numbers, node_total_by_numbers      the counts that ROOM asks for
+--   fork_nodes_by_number, fork_wires_by_number
 --
 -- Assumes nothing.
 use Prim.Native.Nat.{ℕ, zero, suc, ◌+◌, ◌-◌, ◌*◌, ◌≤◌, ◌<◌}

@@ -1,7 +1,7 @@
 -- Lists read by place: what is joined or summed over the numbers below a length is joined or summed along the list.
 --
---   joined-along, total-along         from numbers to the list
---   joined_same, total-same           of functions that agree below n
+--   joined_along, total_along         from numbers to the list
+--   joined_same, total_same           of functions that agree below n
 --   each_long, each_at                a list of equal pieces: its length, and the words of one piece
 --   each_append, joined-first, total_first
 --

@@ -3,9 +3,9 @@
 --   numbers                           f, f + 1, .. so many numbers
 --   standing                          the wires on which the uses of a list stand
 --   taking                            the wires that FORKs and DRAINs take
---   one-wires-legs-are-taken-once     of one wire: itself and its new wires
---   each-wire-is-taken-once           of all wires
---   leg-is-new                        a use stands on its wire or on a new one of it
+--   one_wires_legs_are_taken_once     of one wire: itself and its new wires
+--   each_wire_is_taken_once           of all wires
+--   leg_is_new                        a use stands on its wire or on a new one of it
 --
 -- Idea. Follow the definition of forks: a FORK takes the wire, its first leg goes to the next use, and its second leg is the wire for the
 -- rest. Count how often a number x is taken: the sum is that of x among the wire and its new numbers. Add up over all wires; each use

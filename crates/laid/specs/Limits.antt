@@ -1,6 +1,6 @@
 -- A TABLE OF WORDS LOWERS TO WORDS. A list of words has all its numbers below 2^32, as a lent slice has.
 --
---   lowered-words         where the numbers of a checked table are below 2^32, so are those of its graph
+--   lowered_words_lem     where the numbers of a checked table are below 2^32, so are those of its graph
 --
 -- The idea. The graph is accepted, so its counts, wires and first outputs are small or X, which is the largest word; codes, sorts and kinds are
 -- small by their columns; an input's number is at most the rows; a CONST's word is the table's.

@@ -1,9 +1,9 @@
 -- The nodes and wires that lowering lists: each once, and which they are.
 --
 --   Real                              a node that the table has
---   listed-role-is-real, real-role-is-listed, roles-once, role-row
+--   listed_role_is_real, real_role_is_listed, roles-once, role-row
 --   Made                              a wire that the table has
---   listed-wire-is-made, made-wire-is-listed, wires-once
+--   listed_wire_is_made, made_wire_is_listed, wires-once
 --
 -- Assumes nothing.
 use Rattle.std.specs.Prelude.{ℕ, zero, suc, ◌<◌, ◌⊎◌, Bool, cond, ◌&&◌, List, [], ◌∷◌}

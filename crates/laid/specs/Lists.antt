@@ -1,9 +1,9 @@
 -- The lists of lowering: where their elements come from, that they are without repeats, and at which place each element stands.
 --
---   gathered-from, -has, -once            of lists made row by row
+--   gathered_from, -has, -once            of lists made row by row
 --   each_from, -has, -once                of lists made element by element
---   those-from, -has, -once               of the rows that pass a test
---   at_position, position-is              the place of an element
+--   those_from, -has, -once               of the rows that pass a test
+--   at_position, position_is              the place of an element
 --
 -- What is true of any list (Among, Once and their laws) is passed on from `lowered`.
 -- Assumes nothing.

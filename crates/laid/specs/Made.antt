@@ -1,10 +1,10 @@
 -- Every use of a lowered table takes a wire that the table has, of the sort that its place wants.
 --
 --   Fine                          what an input takes is made, and of a sort
---   node-input-is-fine, result-is-fine
---   node-source, result-source    the source of a use is made, and has its sort
---   source-is-made
---   takes-where-it-has-a-place    a node takes something exactly on the places of its kind
+--   node_input_is_fine, result_is_fine
+--   node_source, result_source    the source of a use is made, and has its sort
+--   source_is_made
+--   takes_where_it_has_a_place    a node takes something exactly on the places of its kind
 --
 -- Assumes nothing.
 use Rattle.std.specs.Prelude.{ℕ, zero, suc, ◌+◌, ◌≤◌, ◌<◌, ◌≡◌, ◌⊎◌, Bool, cond, ◌&&◌, ◌||◌, List, eqb, leb}

@@ -2,20 +2,19 @@
 -- below W and of its sort.
 --
 --   Right, AllRight       a row that is right, where its first output is to be f; rows that are right in order
---   rows-are-right        of the whole graph
+--   rows_are_right        of the whole graph
 --   Fits                  what a row takes
 --   rows_fit
 --
 -- Assumes nothing.
-use Rattle.std.specs.Prelude.{ℕ, zero, suc, ◌+◌, ◌<◌, ◌≡◌, Bool, true, false, cond, eqb, leb, ltb}
+use Rattle.std.specs.Prelude.{ℕ, zero, suc, ◌+◌, ◌<◌, ◌≡◌, Bool, true, false, cond, eqb, leb}
 use Rattle.std.proofs.Math.Path.{refl, sym, ap}
 use Rattle.std.proofs.Common.{◌∙◌, subst, inl, inr, eqb-true}
 use mathlib.Core.List.{List, [], ◌∷◌, ◌++◌}
 use Rattle.std.proofs.Math.Option.{some}
 use native.Mathlib.Omega.{arith}
 use Rattle.std.proofs.Math.ListN.{length, get_elem?, length-append}
-use Rattle.word.specs.Words.{pick}
-use Rattle.step.specs.Kinds.{Kind, STREAM, GATE, CARRY, INVARIANT, SPLIT, OP, PICK, FORK, DRAIN, outputs, codes, own_sorts, input_sort, Input, in0, in1, in2, Output, out0, out1, output_sort_small}
+use Rattle.step.specs.Kinds.{Kind, STREAM, GATE, CARRY, INVARIANT, SPLIT, OP, PICK, FORK, DRAIN, outputs, codes, own_sorts, input_sort, Input, in0, in1, in2, output_sort_small}
 use Rattle.graph.specs.Below.{total}
 use Rattle.graph.specs.Graph.{absent, Node, has_input, wire_on, output_count, sort_at}
 use Rattle.table.specs.Rows.{kind_at, word, sort_of}

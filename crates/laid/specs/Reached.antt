@@ -3,11 +3,11 @@
 --
 --   Carries                       what it means to be carried into a loop
 --   Reached                       a value at home in a body, or carried into it
---   operand-is-reached            of every operand
---   copy-is-reached               of the source of every copy
+--   operand_is_reached            of every operand
+--   copy_is_reached               of the source of every copy
 --
 -- Assumes nothing.
-use Rattle.std.specs.Prelude.{ℕ, zero, suc, ◌*◌, ◌≤◌, ◌<◌, ◌≡◌, ◌≢◌, ◌⊎◌, Bool, ◌&&◌, ◌||◌, List}
+use Rattle.std.specs.Prelude.{ℕ, zero, suc, ◌≤◌, ◌<◌, ◌≡◌, ◌≢◌, ◌⊎◌, Bool, ◌&&◌, ◌||◌, List}
 use Rattle.std.proofs.Math.Path.{refl}
 use Rattle.std.proofs.Common.{sym, ap, ◌∙◌, subst, arith}
 use Rattle.std.proofs.Math.Logic.{inl, inr}

@@ -1,7 +1,7 @@
 -- Nodes are numbered row by row.
 --
---   stream-node           a loop's STREAM is the first node of its row
---   nodes-before          a node with a lower number than a loop's STREAM is of a row above it
+--   stream_node_lem       a loop's STREAM is the first node of its row
+--   nodes_before          a node with a lower number than a loop's STREAM is of a row above it
 --
 -- Assumes nothing.
 use Prim.Native.Nat.{ℕ, zero, suc, ◌+◌, ◌-◌, ◌≤◌, ◌<◌}

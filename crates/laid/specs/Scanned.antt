@@ -1,8 +1,8 @@
 -- The loops that a value passes on its way in, found loop by loop going outward: what a program finds of a table that passes with no stack.
 --
 --   Walks                         loop L is passed on the way from body B out to the home of v
---   walk-stops                    at home nothing is passed; elsewhere (`here`, `further`) B, and what the body around B passes
---   walked-is-carried, carried-is-walked      carried into L is: passed on the way of some operand
+--   walk_stops                    at home nothing is passed; elsewhere (`here`, `further`) B, and what the body around B passes
+--   walked_is_carried, carried_is_walked      carried into L is: passed on the way of some operand
 --
 -- Assumes nothing.
 use Rattle.std.specs.Prelude.{ℕ, zero, suc, ◌<◌, ◌≡◌, refl, ◌≢◌, ◌⊎◌, Bool, true, false, List}

@@ -1,7 +1,7 @@
 -- The sorts of a lowered table's wires: each wire has the sort of its value, and so have the legs behind it.
 --
---   sorts-are         the sorts that the graph reads are those of the wires, then of each wire's new wires
---   stands-sorted     the wire of a use has the sort of its source
+--   sorts_are         the sorts that the graph reads are those of the wires, then of each wire's new wires
+--   stands_sorted     the wire of a use has the sort of its source
 --
 -- Assumes nothing.
 use Prim.Native.Nat.{ℕ, zero, suc, ◌+◌, ◌-◌, ◌≤◌, ◌<◌}

@@ -1,8 +1,8 @@
 -- The sources of all uses, row by row, as numbers: the list that a program writes down going down the table once.
 --
---   rowSources            the sources of a row's nodes, by node and input position
---   outSource             the source of an OUT row's result
---   use-wires-by-rows     `use_wires` is the rows' sources, then the OUT rows'
+--   row_sources           the sources of a row's nodes, by node and input position
+--   out_source            the source of an OUT row's result
+--   use_wires_by_rows     `use_wires` is the rows' sources, then the OUT rows'
 --
 -- Assumes nothing.
 use Prim.Native.Nat.{ℕ, zero, suc, ◌+◌, ◌*◌, ◌≤◌, ◌<◌}

@@ -1,7 +1,7 @@
 -- What the nodes and results of a lowered table take: every wire once, none past the last.
 --
---   read-once         a wire below W is read once
---   stands-below      the wire of a use is below W
+--   read_once_lem     a wire below W is read once
+--   stands_below      the wire of a use is below W
 --
 -- Assumes nothing.
 use Prim.Native.Nat.{ℕ, zero, suc, ◌+◌, ◌≤◌, ◌<◌}
@@ -23,7 +23,7 @@ use Rattle.lowered.specs.Gathered.{each}
 use Rattle.lowered.specs.Roles.{Role, Wire, Use, into, result, same_wire}
 use Rattle.lowered.specs.Sources.{Feed, value, inner, nothing, role_feed, wire_of, source}
 use Rattle.lowered.specs.Lower.{roles, role_kind, wires, wire_number, wire_sort, taken, use_if, role_uses, is_out, out_rows, uses, users, fork_rows, fork_wires, free_at, all_fork_wires, users_each, plain_wires, all_users, starts, stands_on, role_node, nodes_from, forks_from, lowered_nodes, node_total, wire_total, result_total, lowered_words}
-use Rattle.laid.specs.Lists.{Among, those_from, at_position, there, in_range, has_elem, none_some}
+use Rattle.laid.specs.Lists.{Among, those_from, at_position, in_range, has_elem, none_some}
 use Rattle.laid.specs.Indexed.{joined_same, joined_along, each_append}
 use Rattle.laid.specs.Listed.{Real, listed_role_is_real, made_wire_is_listed}
 use Rattle.laid.specs.Uses.{listed_use_reads, users_has}

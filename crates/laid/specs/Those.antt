@@ -1,8 +1,8 @@
 -- How many of the numbers below n pass a test.
 --
---   none_yet, those-more      from 0, one by one; one_more, no_more: where the next one passes, where it does not
---   those-few                 no more than there are
---   rows-counted              rows of a kind are those that the table counts
+--   none_yet, those_more      from 0, one by one; one_more, no_more: where the next one passes, where it does not
+--   those_few                 no more than there are
+--   rows_counted              rows of a kind are those that the table counts
 --
 -- Assumes nothing.
 use Rattle.std.specs.Prelude.{ℕ, zero, suc, ◌+◌, ◌≤◌, ◌≡◌, Bool, cond, List, [], ◌∷◌, eqb}

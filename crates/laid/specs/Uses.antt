@@ -1,9 +1,9 @@
 -- The uses that lowering lists: each once, and which they are.
 --
 --   Read                              a use that takes a wire
---   listed-use-reads, listed-use-is   every listed use is one, of a node or of an OUT row
---   node-use-is-listed, result-use-is-listed, uses-once
---   users-are, users-has, users-once  the uses of one wire
+--   listed_use_reads, listed_use_is   every listed use is one, of a node or of an OUT row
+--   node_use_is_listed, result_use_is_listed, uses-once
+--   users_are, users_has, users_once  the uses of one wire
 --
 -- Assumes nothing.
 use Rattle.std.specs.Prelude.{ℕ, ◌<◌, ◌⊎◌, true}

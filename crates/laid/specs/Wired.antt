@@ -1,9 +1,9 @@
 -- The sources of all uses as numbers, row by row: what a program writes down going down the table, from home bodies, running sums and the
 -- places of carried values alone.
 --
---   homeNumber            the number of a value's wire at home
---   valueNumber           the number of the wire on which a value comes to a body
---   value-by-number       of every value that is reached
+--   home_number           the number of a value's wire at home
+--   value_number          the number of the wire on which a value comes to a body
+--   value_by_number       of every value that is reached
 --
 -- Assumes nothing.
 use Rattle.std.specs.Prelude.{ℕ, zero, suc, ◌+◌, ◌*◌, ◌≤◌, ◌<◌, ◌≡◌, ◌⊎◌, Bool, List, leb}

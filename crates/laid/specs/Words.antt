@@ -1,8 +1,8 @@
 -- The words of a lowered table, read back as a graph's words are read: counts, starts, results, nodes.
 --
 --   node_at           node i is the i-th lowered node
---   start-kind-at, start-word-at      start k is the k-th INPUT or CONST row's
---   result-at         result k stands where the k-th OUT row's use stands
+--   start_kind_at_lem, start_word_at_lem  start k is the k-th INPUT or CONST row's
+--   result_at_lem     result k stands where the k-th OUT row's use stands
 --   words_long        the length is 4 + 2S + R + 7n
 --
 -- Assumes nothing.

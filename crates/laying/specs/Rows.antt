@@ -2,7 +2,7 @@
 --
 --   Noted             what is noted of the rows before anything is counted
 --   Operands          every operand has its wire
---   opRow ..          the rows of one OP, PICK, FOR and ARG, with its nodes from i and its wires from w
+--   op_row ..          the rows of one OP, PICK, FOR and ARG, with its nodes from i and its wires from w
 --   Known             all numbers are right: bases that fit, and every operand's wire
 --   RowLaid           the nodes of row r, but for the copies of a loop, are laid down right, and every right row stays
 --   RowsLaid          the same of the rows before r

@@ -1,23 +1,23 @@
 -- Legal states stay legal: so a stopped run can always be resumed.
 --
---   loaded-is-legal           a freshly loaded state is legal
---   firing-keeps-legal        a firing of a legal state leaves a legal state
---   order-keeps-legal         so does any list of ready firings
---   run-keeps-legal           and so does a run
+--   loaded_is_legal           a freshly loaded state is legal
+--   firing_keeps_legal        a firing of a legal state leaves a legal state
+--   order_keeps_legal         so does any list of ready firings
+--   run_keeps_legal           and so does a run
 --
 -- Idea: a wire that is taken holds 0 0; a wire that is given a word holds 1 and a word of its sort, by the law of the node's step; a record that
 -- is left is legal, by the same law; all else stands.
 -- Assumes nothing.
-use Rattle.std.specs.Prelude.{ℕ, zero, suc, ◌+◌, ◌*◌, ◌/◌, ◌%◌, ◌≤◌, ◌<◌, ◌≡◌, refl, ◌≢◌, ◌⊎◌, Bool, ◌&&◌, List, [], ◌∷◌, eqb, ltb, get_or, length}
-use Rattle.std.proofs.Common.{sym, ap₂, ◌∙◌, subst, subst₂, inl, inr, arith, eq-eqb, ne_eqb, eqb-true, lt-ltb, le-ltb}
+use Rattle.std.specs.Prelude.{ℕ, zero, suc, ◌+◌, ◌*◌, ◌/◌, ◌%◌, ◌≤◌, ◌<◌, ◌≡◌, refl, Bool, ◌&&◌, List, [], ◌∷◌, eqb, get_or, length}
+use Rattle.std.proofs.Common.{sym, ◌∙◌, subst, subst₂, arith, eq-eqb, ne_eqb, eqb-true, lt-ltb, le-ltb}
 use Rattle.std.proofs.Math.Path.{ap}
 use Rattle.std.proofs.Math.Bool.{true, false}
 use Rattle.std.proofs.Math.Option.{Option, none, some}
 use Rattle.std.proofs.Math.Decide.{ℕ_discrete, dec_lt}
 use Rattle.std.proofs.Math.Dec.{eqb-suc-zero}
 use Rattle.word.specs.Words.{pick, word_limit}
-use Rattle.step.specs.Kinds.{Kind, STREAM, GATE, CARRY, INVARIANT, SPLIT, FORK, DRAIN, OP, PICK, Input, in0, in1, in2, Output, own_sorts}
-use Rattle.step.specs.Firing.{View, Effect, waits, gives}
+use Rattle.step.specs.Kinds.{Kind, STREAM, GATE, CARRY, INVARIANT, SPLIT, FORK, DRAIN, OP, PICK, Input, in0, in1, in2, own_sorts}
+use Rattle.step.specs.Firing.{View, Effect, waits}
 use Rattle.step.specs.Machines.{step, rest}
 use Rattle.step.specs.Kept.{fits, legal_record, and_true, both_true, FitsIn, step_keeps_legal, step_gives_fitting}
 use Rattle.step.specs.declared.Record.{Record}

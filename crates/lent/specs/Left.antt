@@ -1,6 +1,6 @@
 -- The record after one firing.
 --
---   leftBy          the effect's `next`, or the record as it was where there is no effect
+--   left_by          the effect's `next`, or the record as it was where there is no effect
 --
 -- Assumes nothing.
 use Rattle.std.proofs.Math.Option.{Option, none, some}

@@ -1,10 +1,10 @@
 -- Tables lowered by computing: the register's two, and one for each thing that a table may hold.
 --
---   sum-table-lowers-to-the-102-words     as the register asks
---   p12-lowers                            loops in loops, values carried in
---   input-out-has-no-nodes, unused-values-are-drained, eight-loops-lower, a-carried-flag-keeps-its-sort
---   one-word-short, refusal-writes-nothing, two-words-left, length-is-answered      the answers, and the lent words
---   lowering-computes                     opens every definition that a lowering computes with
+--   sum_table_lowers_to_the_102_words     as the register asks
+--   p12_lowers                            loops in loops, values carried in
+--   input_out_has_no_nodes, unused_values_are_drained, eight_loops_lower, a_carried_flag_keeps_its_sort
+--   one_word_short, refusal_writes_nothing, two_words_left, length_is_answered      the answers, and the lent words
+--   lowering_computes                     opens every definition that a lowering computes with
 --
 -- Assumes nothing.
 use Rattle.std.specs.Prelude.{ℕ, ◌≡◌, refl, List, [], ◌∷◌, ◌++◌, take, set, replicate}

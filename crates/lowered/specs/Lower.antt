@@ -2,8 +2,8 @@
 --
 --   roles, wires, uses            the nodes, wires and uses before forks, in order; a number is a place in its list
 --   users                         the uses of a wire, in order
---   forkRows, legOf               the FORKs or the DRAIN of a wire; the wire on which a use stands
---   loweredNodes, loweredWords    the graph's rows, and all its words
+--   fork_rows, leg_of             the FORKs or the DRAIN of a wire; the wire on which a use stands
+--   lowered_nodes, lowered_words  the graph's rows, and all its words
 --
 -- Assumes nothing.
 use Rattle.std.specs.Prelude.{ℕ, zero, suc, ◌+◌, ◌*◌, Bool, cond, List, [], ◌∷◌, ◌++◌, eqb, leb, length}

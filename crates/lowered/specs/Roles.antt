@@ -2,7 +2,7 @@
 --
 --   Role                          a node, by the row it is laid down for
 --   Wire, Use                     a start or an output; an input or a result
---   sameRole, sameWire, sameUse   whether two are the same
+--   same_role, same_wire, same_use  whether two are the same
 --
 -- A carried-in value's nodes are named by the loop and the value's row. FORKs and DRAINs have no role: they follow from the uses.
 -- Assumes nothing.

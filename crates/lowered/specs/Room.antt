@@ -1,9 +1,9 @@
 -- What the two entries answer: docs/RULES.md, section 'Refusal numbers', 10.
 --
---   inLimits              the four counts are in their limits
---   checkAnswer           check_table: 1 to 9, then 10 by the counts alone
---   lowerAnswer           lower: 1 to 9, then 10 by the counts or the lent words; else how many words were written
---   lentAfter             the lent words after lower
+--   in_limits             the four counts are in their limits
+--   check_answer          check_table: 1 to 9, then 10 by the counts alone
+--   lower_answer          lower: 1 to 9, then 10 by the counts or the lent words; else how many words were written
+--   lent_after            the lent words after lower
 --
 -- Assumes nothing.
 use Rattle.std.specs.Prelude.{ℕ, Bool, cond, ◌&&◌, List, eqb, leb, length}

@@ -1,7 +1,7 @@
 -- Where each input and each result of a lowered table comes from: docs/RULES.md, sections 'Carried in' and 'Nodes, row by row'.
 --
 --   inside, carried       which values are carried into a loop
---   valueWire             the wire on which a value comes to a body
+--   value_wire            the wire on which a value comes to a body
 --   Feed, feed            what an input or a result takes: a value in a body, or a wire of its own loop
 --   source                the wire of it
 --

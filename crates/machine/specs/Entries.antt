@@ -1,10 +1,10 @@
 -- The entries load and fire: docs/RULES.md, sections 'Firing' and 'Refusal numbers'. Each fixes its answer and every lent word, for any words at
 -- all. 'A graph is looked at first, by 11 to 15; then comes 17; then 16 for load, 18 for fire and run.'
 --
---   stateRefusal                      11 to 15, then 17 for a state that is not legal
---   loadRefusal, loadState            the number that load answers, and the state after it
---   fireRefusal, fireAnswer, fireState
---   firedNumber, firedFlag            the number for each case of the answer of fire; fire-number, fire-flag: of the answer itself
+--   state_refusal                      11 to 15, then 17 for a state that is not legal
+--   load_refusal, load_state            the number that load answers, and the state after it
+--   fire_refusal, fire_answer, fire_state
+--   fired_number, fired_flag            the number for each case of the answer of fire; fire-number, fire-flag: of the answer itself
 --   FireAnswer, LoadAnswer            what fire and load promise
 --   Fit, Given                        what the inner functions rely on
 --

@@ -1,12 +1,12 @@
 -- Scratch rows that are right for a table: what is tallied, noted and written from them is what the table's graph has.
 --
---   scratch-of            every source has a place
+--   scratch_of            every source has a place
 --   Counted               the counts are known
 --   Ready                 the scratch is right, the tables are filled
 --   Measured              what measuring a table answers
---   uses-of               the table of uses holds the uses of every wire
---   node-total-of, wire-total-of      the counts with forks
---   ready-results, ready-rows, ready-forks        each part written is the graph's
+--   uses_of_lem               the table of uses holds the uses of every wire
+--   node_total_of, wire_total_of      the counts with forks
+--   ready_results, ready_rows, ready_forks        each part written is the graph's
 --
 -- Assumes nothing.
 use Prim.Native.Nat.{ℕ, ◌+◌, ◌-◌, ◌*◌, ◌<◌, ◌≤◌}

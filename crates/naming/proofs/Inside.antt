@@ -1,12 +1,12 @@
 -- Whether a body lies in a loop, found going outward; and which values a loop carries, by marks.
 --
---   inside-outward        a body lies in a loop if it is that loop, or the body around it lies in it
---   body-around, home-is-body             bodies all the way
---   mark-more, row-marked, row-passed     one operand, one row more is looked at
---   carried-by-marks      carried: marked, and at home outside
+--   inside_outward        a body lies in a loop if it is that loop, or the body around it lies in it
+--   body_around, home_is_body             bodies all the way
+--   mark_more, row_marked, row_passed     one operand, one row more is looked at
+--   carried_by_marks      carried: marked, and at home outside
 --
 -- Assumes nothing.
-use Prim.Native.Nat.{ℕ, suc, ◌+◌, ◌<◌, ◌≤◌}
+use Prim.Native.Nat.{ℕ, ◌+◌, ◌<◌, ◌≤◌}
 use mathlib.Core.Path.{◌≡◌, refl, sym, ap, ap₂, ◌∙◌, subst}
 use mathlib.Core.Logic.{◌≢◌, inl, inr}
 use mathlib.Core.Bool.{Bool, true, false, cond, not, ◌&&◌, ◌||◌}

@@ -1,8 +1,8 @@
 -- The parts joined are the names of the definition.
 --
---   roles-by-parts, copies-by-parts, starts-by-parts      of all rows, of a loop's copies, of all starts
+--   roles_by_parts, copies_by_parts, starts_by_parts      of all rows, of a loop's copies, of all starts
 --   Begins                                words that begin with the names of a list, three words each
---   outputs-read, forks-read, legs-read   what is read back from such words is right
+--   outputs_read, forks_read, legs_read   what is read back from such words is right
 --
 -- Assumes nothing.
 use Prim.Native.Nat.{ℕ, zero, suc, ◌+◌, ◌-◌, ◌*◌, ◌<◌, ◌≤◌}

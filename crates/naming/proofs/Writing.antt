@@ -1,8 +1,8 @@
 -- Lists written one behind another, as every loop here writes them.
 --
 --   Written               the lists of the numbers below i stand from `at` on, and p is the place behind them
---   nothing_written, room-left, one_written       how a loop begins, what room it has for the next list, and how it goes on
---   all-written           what it leaves
+--   nothing_written, room_left, one_written       how a loop begins, what room it has for the next list, and how it goes on
+--   all_written           what it leaves
 --   when, unless          a list that is written under a condition
 --
 -- Assumes nothing.

@@ -1,7 +1,7 @@
 -- What naming a graph answers, with the lent words after it.
 --
---   nameAnswer            refusals 1 to 10, as lowering has them; 10 too where the lent words are too few; else 0 and the counts
---   namesAfter            lent words after naming: the names first, the rest as it was; all as it was where it refuses
+--   name_answer            refusals 1 to 10, as lowering has them; 10 too where the lent words are too few; else 0 and the counts
+--   names_after            lent words after naming: the names first, the rest as it was; all as it was where it refuses
 --   NameAnswer            both
 --
 -- Assumes nothing.

@@ -1,15 +1,15 @@
 -- WHAT THE NAMES SAY: each stands at the number of the node or wire that it names.
 --
 --   name_at                name number i of a list of names
---   names-long            each node and each wire has its three words
---   named-node            a node before forks has the name of its role
---   named-wire            a wire before forks has its name
---   named-output          the wires that the graph numbers as the outputs of a node before forks have the names of its outputs
+--   names_long            each node and each wire has its three words
+--   named_node            a node before forks has the name of its role
+--   named_wire            a wire before forks has its name
+--   named_output          the wires that the graph numbers as the outputs of a node before forks have the names of its outputs
 --   named_start           the wire of a start has its name
---   named-fork            a FORK or DRAIN has the name of the wire that it takes, marked
---   named-leg             both legs of a FORK have the name of the wire that it takes
---   one-naming            two answers to the contract are one
---   refused-as-checked    with enough lent words naming refuses what the check of a table refuses
+--   named_fork            a FORK or DRAIN has the name of the wire that it takes, marked
+--   named_leg             both legs of a FORK have the name of the wire that it takes
+--   one_naming            two answers to the contract are one
+--   refused_as_checked    with enough lent words naming refuses what the check of a table refuses
 --
 -- Assumes nothing.
 use Prim.Native.Nat.{ℕ, zero, suc, ◌+◌, ◌*◌, ◌<◌, ◌≤◌}

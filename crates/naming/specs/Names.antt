@@ -1,9 +1,9 @@
 -- THE ROWS BESIDE A GRAPH: for each node and each wire of a lowered table, what it is for and the table's rows behind it.
 --
---   roleName              a node before forks: what it is, its row, the row of the value carried in
---   wireName              a wire before forks, likewise
---   forkName, drainName   a FORK or DRAIN is named by the wire that it copies or swallows
---   nodeNames, wireNames  all of them, three words each, in the order of `lowered_nodes` and of the wires' numbers
+--   role_name              a node before forks: what it is, its row, the row of the value carried in
+--   wire_name              a wire before forks, likewise
+--   fork_name, drain_name   a FORK or DRAIN is named by the wire that it copies or swallows
+--   node_names, wire_names  all of them, three words each, in the order of `lowered_nodes` and of the wires' numbers
 --
 -- Assumes nothing.
 use Rattle.std.specs.Prelude.{ℕ, ◌+◌, List, [], ◌∷◌, ◌++◌}

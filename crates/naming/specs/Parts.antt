@@ -1,8 +1,8 @@
 -- The names part by part, as the code writes them: a list for each row, node or wire, to be joined in order.
 --
---   rowNames, copyNames, start_names       the names that a row, a value carried into a loop, a start gives
---   outputNames                           the outputs of a node, from its name
---   forksOf, legsOf                       the forks and legs of a wire with k uses, from its name
+--   row_names, copy_names, start_names       the names that a row, a value carried into a loop, a start gives
+--   output_names                           the outputs of a node, from its name
+--   forks_of, legs_of                       the forks and legs of a wire with k uses, from its name
 --
 -- Assumes nothing.
 use Rattle.std.specs.Prelude.{ℕ, ◌+◌, ◌-◌, ◌*◌, Bool, true, cond, List, [], ◌∷◌, ◌++◌, eqb, get_or}

@@ -1,13 +1,13 @@
 -- The register, docs/RULES.md, its last section: P1 to P12 as one table with one statement, 'about the definitions themselves'.
 --
 --   register              the cases: what the rules give, and what the register prints
---   register-holds        each case comes out as printed
+--   register_holds        each case comes out as printed
 --
 -- A machine's case shows the words given on each output, then that nothing is left on its inputs and that it is in its first phase with
 -- empty registers. Letters are written A = 1 to H = 8, T = 1 and F = 0. A table's case shows the answer, the node and the firings of its
 -- run, then the words that its results hold.
 -- Assumes nothing.
-use Rattle.std.specs.Prelude.{ℕ, ◌+◌, ◌*◌, ◌≡◌, refl, List, [], ◌∷◌}
+use Rattle.std.specs.Prelude.{ℕ, ◌+◌, ◌*◌, ◌≡◌, List, [], ◌∷◌}
 use Rattle.word.specs.Words.{condition, update}
 use Rattle.step.specs.Kinds.{STREAM, GATE, CARRY, INVARIANT}
 use Rattle.step.specs.Machines.{step}

@@ -1,7 +1,7 @@
 -- A table lowered, loaded and run to its end, as one list of words.
 --
 --   ran                           answer, node and firings; then the words that the results hold
---   p10, p11, zero-step, p12      the register's tables run
+--   p10, p11, zero_step_lem, p12  the register's tables run
 --
 -- Assumes nothing.
 use Rattle.std.specs.Prelude.{ℕ, ◌-◌, ◌≡◌, refl, List, [], ◌∷◌, set}

@@ -1,8 +1,8 @@
 -- Slips of lowering, run: what P12's table would do if a value carried into a loop came without its guard, or if its
 -- INVARIANT took the raw condition. The graphs are written out; lowering writes neither.
 --
---   unguarded-gives-2         'a copy without its guard, with which P12 gives 2 and leaves a token behind'
---   raw-driven-gives-nothing  'a copy's INVARIANT on the raw condition'
+--   unguarded_gives_2         'a copy without its guard, with which P12 gives 2 and leaves a token behind'
+--   raw_driven_gives_nothing  'a copy's INVARIANT on the raw condition'
 --
 -- Assumes nothing.
 use Rattle.std.specs.Prelude.{ℕ, ◌≡◌, refl, List, [], ◌∷◌}

@@ -1,9 +1,9 @@
 -- The entry run: docs/RULES.md, sections 'Firing' and 'Refusal numbers'. Whatever the words, it fixes the answer, its node, the firings and every lent word.
 --
---   orderBelow                        no number of the order list is past the last node
---   runRefusal, run_at, runState       the refusal's number; where the run ends; the state after the call
---   runFirings, runAnswer             the firings made, and the answer
---   ranNumber, ranOutcome, ranFirings      the numbers for each case of the answer
+--   order_below                        no number of the order list is past the last node
+--   run_refusal, run_at, run_state       the refusal's number; where the run ends; the state after the call
+--   run_firings, run_answer             the firings made, and the answer
+--   ran_number, ran_outcome, ran_firings      the numbers for each case of the answer
 --
 -- Assumes nothing.
 use Rattle.std.specs.Prelude.{ℕ, ◌-◌, ◌<◌, ◌≡◌, Bool, not, ◌||◌, List, eqb, ltb, get_or, length}

@@ -1,6 +1,6 @@
 -- The numbers of the answer of run, and what run promises: docs/RULES.md, sections 'Firing' and 'Refusal numbers'.
 --
---   run-number, run-outcome, run-firings      of the answer: the refusal's number or 0; answer and node, 0 in a refusal; the firings, 0 in a refusal
+--   run_number, run_outcome, run_firings_lem      of the answer: the refusal's number or 0; answer and node, 0 in a refusal; the firings, 0 in a refusal
 --   RunAnswer                                 what run promises of its answer and of the lent state
 --
 -- Assumes nothing.

@@ -1,7 +1,7 @@
 -- Legal states: docs/RULES.md, section 'Firing'.
 --
---   stateLength               how many words a state of this graph has
---   legalWire, legalNode      the rules for one wire, and for one node's record
+--   state_length               how many words a state of this graph has
+--   legal_wire, legal_node      the rules for one wire, and for one node's record
 --   legal                     'A state is legal if its length is right', and every wire and every record
 --
 -- Assumes nothing.

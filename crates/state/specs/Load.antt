@@ -1,7 +1,7 @@
 -- Loading: 'Loading fills the wires of the starts: with the input of that number, or with the constant. Everything else becomes 0.'
 --
---   inputCount                how many inputs a graph has
---   startWord                 the word of a start: an input's, or the constant
+--   input_count                how many inputs a graph has
+--   start_word                 the word of a start: an input's, or the constant
 --   loaded                    the loaded state
 --
 -- Assumes nothing.

@@ -1,8 +1,8 @@
 -- The loaded state, word by word.
 --
 --   loaded_at                  the word at place j
---   loaded-length             a loaded state has the length of a state
---   loaded-at                 and at each place the word that `loaded_at` says
+--   loaded_length             a loaded state has the length of a state
+--   loaded_at_lem                 and at each place the word that `loaded_at` says
 --
 -- Assumes nothing.
 use Prim.Native.Nat.{ℕ, zero, suc, ◌+◌, ◌*◌, ◌-◌, ◌/◌, ◌%◌, ◌≤◌, ◌<◌}

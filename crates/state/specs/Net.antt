@@ -1,9 +1,9 @@
 -- One firing on a state: docs/RULES.md, section 'Firing'.
 --
 --   Net                       so many wires, the wire on each place of each node, and what each node does
---   view, effectAt            what node i sees in a state, and what it would do: none where it is not ready
+--   view, effect_at            what node i sees in a state, and what it would do: none where it is not ready
 --   stores, fire              the words a firing stores, and the state after it: none where the node is not ready
---   netOf                     the net of a graph's words
+--   net_of                     the net of a graph's words
 --
 -- Whatever has nodes, wires and a step is a net; so another edition of the machines is another net over the same wires.
 -- Assumes nothing.

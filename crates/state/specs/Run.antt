@@ -2,7 +2,7 @@
 --
 --   turn, follow, sweep, finish       the list once, then sweeps until one fires nothing, within an allowance
 --   run                               finish after follow
---   anyReady, complete, zeroStep      what a run's answer asks of the state it ends in
+--   any_ready, complete, zero_step      what a run's answer asks of the state it ends in
 --   outcome                           SPENT, COMPLETE, ZERO STEP with its node, STRANDED
 --
 -- Assumes nothing.

@@ -1,7 +1,7 @@
 -- A state as words: docs/RULES.md, section 'Firing'. `s` is the whole list of words, `W` the number of wires.
 --
---   tokenAt, hasRoom          what stands on a wire, and whether it may be filled
---   recordAt                  a node's phase and three registers
+--   token_at, has_room          what stands on a wire, and whether it may be filled
+--   record_at                  a node's phase and three registers
 --   Stores, stored            words stored at places, one after the other
 --   emptied, filled, kept     the stores that take a token, give one, and leave a record
 --   stored-append, length-stored

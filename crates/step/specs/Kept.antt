@@ -1,9 +1,9 @@
 -- Legal records and sorts: a step keeps a legal record legal, and gives words of the sort that its outputs have.
 --
 --   fits                          a word may stand where this sort is asked
---   legalRecord                   'every record is one its kind may have'
---   step-keeps-legal              a firing of a legal record leaves a legal record
---   step-gives-fitting            and gives words that fit their outputs
+--   legal_record                   'every record is one its kind may have'
+--   step_keeps_legal              a firing of a legal record leaves a legal record
+--   step_gives_fitting            and gives words that fit their outputs
 --
 -- Both are stated over the row's sort, once for all kinds: so FORK, DRAIN, SPLIT and INVARIANT of words and of flags share them.
 -- Assumes nothing.

@@ -3,8 +3,8 @@
 --   Kind, kind_of                  a kind and its number
 --   columns                       the table of kinds
 --   inputs, outputs               how many places of each a kind has
---   inputSort, outputSort         the sort of each place
---   codes, ownSorts               which codes and sorts a row of this kind may have
+--   input_sort, output_sort         the sort of each place
+--   codes, own_sorts               which codes and sorts a row of this kind may have
 --   limit                         a word of a sort is below its limit
 --
 -- Assumes nothing.

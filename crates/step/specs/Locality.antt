@@ -2,8 +2,8 @@
 -- else that the node sees matters.
 --
 --   Local                     the law, of any step
---   every-program-is-local    it holds of every program, so a new kind or another edition needs no proof of its own
---   step-is-local             so it holds of each of the nine kinds
+--   every_program_is_local    it holds of every program, so a new kind or another edition needs no proof of its own
+--   step_is_local             so it holds of each of the nine kinds
 --
 -- Idea: a program looks at an input only by taking it, and at an output only by giving on it.
 -- Assumes nothing.

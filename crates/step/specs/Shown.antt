@@ -2,10 +2,10 @@
 -- full or not; it is made if the inputs it takes are full and the outputs it fills have room. `ready_apart` says that this is `perform`, for
 -- every program.
 --
---   tokenOf, view_of, shown         Token, Seen and Firing of the code, as an optional word, a View and an optional Effect
+--   token_of, view_of, shown         Token, Seen and Firing of the code, as an optional word, a View and an optional Effect
 --   decided                        a program followed by the words on the inputs, whether they are there or not
---   whenReady                      an effect, if its inputs are full and its outputs have room
---   ready-apart                    perform p v ≡ whenReady v (decided p (the words of v))
+--   when_ready                      an effect, if its inputs are full and its outputs have room
+--   ready_apart                    perform p v ≡ when_ready v (decided p (the words of v))
 --
 -- Assumes nothing.
 use Rattle.std.specs.Prelude.{◌≡◌, refl, Bool, true, false, ◌&&◌, ℕ}

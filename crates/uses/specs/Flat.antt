@@ -2,7 +2,7 @@
 --
 --   Holds                     a wire of the flat state shows a token
 --   Rep                       a flat state shows tokens and records
---   flat-run                  so firings there are firings on the words, with the same words on each wire
+--   flat_run                  so firings there are firings on the words, with the same words on each wire
 --
 -- Assumes nothing.
 use Rattle.std.specs.Prelude.{◌≡◌, refl, ◌≢◌, Bool, true, false, get_or, set, length, eqb}

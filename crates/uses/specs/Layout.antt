@@ -3,8 +3,8 @@
 --
 --   Layout                    where the roles, wires and uses of a plan stand in a net, and which forks or drain spread each wire
 --   Shown                     the net's tokens and records show a state of the use machine; the wires between forks are empty
---   fire-shown                one firing
---   run-shown                 so every run of the use machine is one of the net, no shorter and with the same words on each wire
+--   fire_shown                one firing
+--   run_shown                 so every run of the use machine is one of the net, no shorter and with the same words on each wire
 --
 -- Idea: a wire and the wires behind it form a tree; trees of different wires are apart; a role that gives on a wire finds its tree empty.
 -- Assumes nothing.

@@ -4,7 +4,7 @@
 --   Plan                      which roles there are, what each does, and which wire each use reads
 --   State, after              a token a use, a record a role, the words put so far; the state after some effects at once
 --   Ready, Steps              a role that may fire; firings one after the other
---   stage, stage-cover        different roles that are all ready fire one after the other, and the end is `after` of all their effects
+--   stage, stage_cover        different roles that are all ready fire one after the other, and the end is `after` of all their effects
 --
 -- Idea of the stage: what one ready role gives, no other ready one takes, so the effects may be peeled off one by one.
 -- Assumes nothing.

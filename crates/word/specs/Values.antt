@@ -1,12 +1,12 @@
 -- What people may rely on of words read with a sign. A value here is `value_of` of a word, and numbers are the library's integers.
 -- Main results:
---   word-of-value, value-of-word    no two words have one value, and every number from -2^31 to 2^31 - 1 is one; `value_in_range`: no other is
---   sum-in-range                    a sum of values that is a value comes out; `difference_in_range`, `product_in_range` likewise
---   sign-agrees                     `<` is the order of the values; `more_is_less`, `at_least_is_not_less`, `at_most_is_not_more` and
+--   word_of_value, value_of_word    no two words have one value, and every number from -2^31 to 2^31 - 1 is one; `value_in_range`: no other is
+--   sum_in_range                    a sum of values that is a value comes out; `difference_in_range`, `product_in_range` likewise
+--   sign_agrees                     `<` is the order of the values; `more_is_less`, `at_least_is_not_less`, `at_most_is_not_more` and
 --                                   `unequal_by_value` tell the other conditions by it
---   quotient-toward-zero            `/=` is the quotient whose remainder is nearer to 0 than the divisor, and is 0 or has the dividend's sign
---   shift-is-floor                  `>>=` is the value divided by the power of two and rounded down, whatever the count
---   quotient-by-zero, least_by_minus_one, far-left-shift, far-right-shift     the rest: what has no quotient, and counts over 31
+--   quotient_toward_zero            `/=` is the quotient whose remainder is nearer to 0 than the divisor, and is 0 or has the dividend's sign
+--   shift_is_floor                  `>>=` is the value divided by the power of two and rounded down, whatever the count
+--   quotient_by_zero, least_by_minus_one, far_left_shift, far_right_shift     the rest: what has no quotient, and counts over 31
 -- Assumes nothing.
 use Rattle.std.specs.Prelude.{◌≡◌, ℕ, zero, suc, ◌+◌, ◌-◌, ◌*◌, ◌/◌, ◌%◌, ◌^◌, ◌<◌, ◌≤◌, Bool, true, false, not, T, ◌⊎◌, ◌↔◌, ℤ, pos, negsuc, ◌+ℤ◌, ◌-ℤ◌, ◌*ℤ◌, neg_ℤ, nat_abs, ◌==◌, ◌≢◌, nat_lt, refl}
 use Rattle.std.proofs.Common.{sym, ap, subst, ◌∙◌, inl, inr, arith, lt_of_lt_of_le, lt_of_le_of_lt, mod-lt, div-le_self, div-add-mod', div-mul-le_self, mul-le-mul_left, suc-mul, mul-add, add-mul, mul_comm, eq-eqb, ne_eqb, eqb-true, lt-ltb, le-ltb, ltb-true, ltb-false, pow_pos, pow_mono}

@@ -1,11 +1,11 @@
 -- Every word of a lowered table by number: what a program writes that has the nodes before forks and the sources of the results.
 --
---   inputsAt, out_at           the sources that node i takes, that result i takes
---   useCount, freeFrom        how many uses a wire has; the first free wire when its turn comes
---   uses-counted              the uses of a wire: among the nodes' inputs, then among the results
---   standsAt                  the wire of a use, from its source and how many uses of it came before
+--   inputs_at, out_at          the sources that node i takes, that result i takes
+--   use_count, free_from      how many uses a wire has; the first free wire when its turn comes
+--   uses_counted              the uses of a wire: among the nodes' inputs, then among the results
+--   stands_at                 the wire of a use, from its source and how many uses of it came before
 --   input0-stands, input1-stands, input2-stands, result-stands
---   input-below, out_below    sources are wires
+--   input_below_lem, out_below  sources are wires
 --
 -- Assumes nothing.
 use Rattle.std.specs.Prelude.{ℕ, zero, suc, ◌+◌, ◌≤◌, ◌<◌, ◌≡◌, ◌≢◌, ◌⊎◌, Bool, eqb, length}

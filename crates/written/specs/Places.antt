@@ -1,8 +1,8 @@
 -- Where each node of a table stands before forks, and what its seven words are: from running sums and operands' numbers alone.
 --
---   op-place, stream-place, gate-place, guard-place, copy-split-place, copy-invariant-place, carry-place, arg-split-place
+--   op-place, stream-place, gate-place, guard-place, copy_split_place, copy_invariant_place, carry-place, arg_split_place
 --                             the number of each node
---   op-node, pick-node, stream-node, ..       its words
+--   op_node_lem, pick_node, stream_node_lem, ..  its words
 --   right_by                  a row with these words is right
 --   all_right                 where the nodes of all rows and of all carried values are right, every row is
 --

@@ -1,7 +1,7 @@
 -- The nodes of a table before forks, by number: what a program lays down first.
 --
---   inputNumber           the number of an input's source; X where there is no such input
---   plainNode             a node with its sources' numbers for inputs
+--   input_number          the number of an input's source; X where there is no such input
+--   plain_node            a node with its sources' numbers for inputs
 --   RowIs                 seven words are a node's
 --   Laid, Outs            rows hold every node before forks; words hold the sources of the results
 --

@@ -2,10 +2,10 @@
 --
 --   first_at                   the first output number of node i
 --   first-number, first_next, all_first
---   wireSortAt                the sort of wire w
+--   wire_sort_at              the sort of wire w
 --   start-sort, sort-first, sort-second
---   forkList                  the DRAIN or the FORKs of a wire, from how many uses it has
---   lowered-by-number         THE WORDS: header, starts, results, nodes before forks, forks
+--   fork_list                 the DRAIN or the FORKs of a wire, from how many uses it has
+--   lowered_by_number         THE WORDS: header, starts, results, nodes before forks, forks
 --
 -- Assumes nothing.
 use Prim.Native.Nat.{ℕ, zero, suc, ◌+◌, ◌-◌, ◌*◌, ◌≤◌, ◌<◌}

@@ -1,0 +1,11 @@
+use mathlib.Core.Path.{◌≡◌}
+use Rattle.naming.specs.Carried.{Body}
+use Rattle.structure.specs.Depth.{depth}
+use Rattle.lowered.specs.Sources.{inside}
+use Rattle.naming.proofs.lies_in.Given as goal
+
+abbrev pub invariant-loop-x : goal.invariant-loop-x
+invariant-loop-x l = Body l.table l.x × (inside l.table l.l l.b ≡ inside l.table l.l l.x)
+
+abbrev pub decreases-loop-x : goal.decreases-loop-x
+decreases-loop-x l = depth l.table l.x
