@@ -2,7 +2,7 @@
 --
 --   the_sum_graph_is_accepted
 --   the_sum_graph_is_ready    whatever its input, a node is ready in the loaded state
---   the_sum_of_five           with input 5 every order has at most 58 firings, and one that rests has 58 and leaves 10 on the result's wire
+--   the_sum_of_five           with input 5 every order has at most 58 firings, and one that rests has 58 and leaves 10 on the result's wire (proofs/NotIdle)
 --
 -- Assumes nothing.
 use Rattle.std.specs.Prelude.{◌≡◌, refl, true, List, [], ◌∷◌, ℕ}

@@ -1,5 +1,6 @@
 -- Any order, one end. Token graphs are fired in an order that nobody knows; these theorems say that the order does not matter.
 -- All speak of the very words that a caller lends: `g` is a graph's words, `s`, `t`, `u` are states' words, and a firing is `fire (net_of g)`.
+-- The theorems stand in proofs/Statements; here is what they speak of.
 --
 --   graph_nodes_commute       two different ready nodes may fire in either order
 --   every_order_rests_alike   if some order rests, all do, after as many firings, in the same words, with the same words on every wire

@@ -3,7 +3,7 @@
 --   turns_of                  the turns of a loop's openings, from a list of openings
 --   raw_of, gated_of          for openings of so many turns in turn: N ones and a zero; N - 1 ones and a zero, or nothing for N = 0
 --   Told                      what has been put on a loop's conditions where the reading stands at a row, by its openings so far
---   told-opens, told-skips, told-again, told-leaves, told_same
+--   told_opens, told_skips, told_again, told_leaves, told_same
 --                             how each step of the reading adds to it
 --
 -- Assumes nothing.

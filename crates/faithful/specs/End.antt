@@ -1,4 +1,4 @@
--- The steps of END.
+-- The steps of END; the two are put together in proofs/End.
 --
 --   step_again                another turn: each CARRY takes `b` and STREAM gives a pair; GATE gives index and condition, each CARRY takes `d`, each
 --                             ARG's SPLIT gives it; each INVARIANT gives its word again

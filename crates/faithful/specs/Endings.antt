@@ -1,7 +1,7 @@
 -- Where an order on the lowered words has ended as the reading has: the state's words, and the run's answer there.
 --
 --   AsRead                    the whole state: the results hold the reading's words in order, every other wire and every record is zero
---   ended_as_read             so it is where the reading has ended
+--   ended_as_read             so it is where the reading has ended (proofs/Endings)
 --   answers_complete          and there the answer is COMPLETE
 --
 -- Assumes nothing.

@@ -1,11 +1,11 @@
--- The steps of FOR.
+-- The steps of FOR; the two are put together in proofs/For.
 --
 --   step_open                 a turn starts: STREAM latches, the guard compares, each CARRY takes its initial; STREAM gives the first pair, each copy's
 --                             SPLIT lets its word in; GATE gives the index, each CARRY takes `d`, each ARG's SPLIT gives it, each INVARIANT takes its seed
 --   step_none                 no turn: the same, but each copy's SPLIT turns its word away and each ARG's SPLIT gives the exit word
 --
--- All that is known of STREAM, GATE, CARRY, INVARIANT and SPLIT at an opening stands here: latch-run, pair-yes, pair-no, guard-run, split-yes,
--- split-no and the tables of effects. Another edition of the machines has other tables; that tables make the step is proved once (Course).
+-- All that is known of STREAM, GATE, CARRY, INVARIANT and SPLIT at an opening stands here: latch_run, pair_yes, pair_no, guard_run, split_yes,
+-- split_no and the tables of effects. Another edition of the machines has other tables; that tables make the step is proved once (Course).
 -- Assumes nothing.
 use Rattle.std.specs.Prelude.{◌≡◌, refl, ◌≢◌, Bool, true, false, [], ℕ, zero, suc, ◌+◌, ◌*◌, ◌<◌, ◌/◌, ◌%◌, ◌-◌}
 use Rattle.std.proofs.Common.{ap, ◌∙◌, inl, inr, arith}

@@ -4,7 +4,7 @@
 --   Inside, scope, held       the records that a loop's nodes hold while pc is inside it
 --   Gamma                     so all uses and records
 --   rel                       a loop and another body: one before, behind, inside or around the other
---   since-head, since-in, since-own
+--   since_head, since_in, since_own
 --                             when a value is born, against a loop's rows
 --
 -- Assumes nothing.

@@ -1,7 +1,7 @@
 -- The roles of a loop: its STREAM, GATE and guard, the SPLIT and the INVARIANT of each copy into it, the CARRY and the SPLIT of each of its ARGs.
 --
 --   in_loop                    a role is one of loop L
---   in_two, in-arg, two_in, arg-in
+--   in_two, in_arg, two_in, arg_in
 --                             of a copy's role and of an ARG's, there and back
 --   in_one                    no role is one of two loops
 --

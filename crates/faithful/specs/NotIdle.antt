@@ -1,4 +1,4 @@
--- None of this is idle: the register's tables pass the check, their readings end, and the theorems speak of their graphs.
+-- None of this is idle: the register's tables pass the check, their readings end, and the theorems speak of their graphs (proofs/NotIdle).
 --
 --   the_sum_of_five_means_ten         P10: every order that rests leaves 10, and five ones and a zero have passed
 --   the_end_of_five                   all words of the state that it leaves

@@ -4,7 +4,7 @@
 --   role_at                    the row of an OP's or PICK's node, the loop of any other
 --   rest_outside              a node whose loop is not open is at rest
 --   EarlyWire                 a start, or an output of a node before row P
---   use-passed, source-early, tok-none, own-rest
+--   use_passed, source_early, tok_none, own_rest
 --                             a use of a node before P is over before P, takes an early wire, and is empty once P is reached; the node is at rest
 --
 -- Assumes nothing.

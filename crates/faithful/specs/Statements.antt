@@ -1,6 +1,6 @@
 -- THE LOWERED TABLE MEANS WHAT IT SAYS. A loop table is read row by row; its lowered graph is fired in an order that nobody knows. These theorems
 -- say that the graph, whatever the order, comes to rest with the words of the reading, and leaves nothing behind: a loop that opens for no turn
--- keeps no word of a carried-in value, so the next opening cannot meet it.
+-- keeps no word of a carried-in value, so the next opening cannot meet it. The theorems stand in proofs/Statements; here is what they speak of.
 --
 --   lowered_table_means_its_reading   every order rests after the same number of firings, with the reading's words and nothing else
 --   the_end_state                     so the end state, all its words, is `end_state`

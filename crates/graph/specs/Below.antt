@@ -5,7 +5,7 @@
 --   total                         the sum of a number for each
 --   joined                        a list for each, joined in order
 --   times                         how often a number stands in a list
---   every_go, -stop, -end         how a loop follows `every`; every-each is what it then knows
+--   every_go, -stop, -end         how a loop follows `every`; every_each is what it then knows
 --   total_within, total_somewhere                    where a number lies in a sum
 --   joined_at                                        where a list stands in the joined list
 --   times_append, -within, -of-two, -somewhere       how often a number stands in a joined list

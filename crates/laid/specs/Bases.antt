@@ -4,7 +4,7 @@
 --   copy_place                the place of a value among those carried into a loop
 --   node_base_op, -for, -arg, -other, and wire_base_op, ..      what each kind of row adds
 --   start_number              an INPUT or CONST row's wire has the row's own number
---   op-number, stream-number, gate-number, guard_number, copy-number, carry-number, arg-number
+--   op_number, stream_number, gate_number, guard_number, copy_number, carry_number, arg_number
 --
 -- Assumes nothing.
 use Prim.Native.Nat.{ℕ, zero, suc, ◌+◌, ◌*◌, ◌≤◌, ◌<◌}

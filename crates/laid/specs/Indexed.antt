@@ -3,7 +3,7 @@
 --   joined_along, total_along         from numbers to the list
 --   joined_same, total_same           of functions that agree below n
 --   each_long, each_at                a list of equal pieces: its length, and the words of one piece
---   each_append, joined-first, total_first
+--   each_append, joined_first, total_first
 --
 -- Assumes nothing.
 use Prim.Native.Nat.{ℕ, zero, suc, ◌+◌, ◌*◌, ◌<◌}

@@ -1,9 +1,9 @@
 -- The nodes and wires that lowering lists: each once, and which they are.
 --
 --   Real                              a node that the table has
---   listed_role_is_real, real_role_is_listed, roles-once, role-row
+--   listed_role_is_real, real_role_is_listed, roles_once, role_row_lem
 --   Made                              a wire that the table has
---   listed_wire_is_made, made_wire_is_listed, wires-once
+--   listed_wire_is_made, made_wire_is_listed, wires_once
 --
 -- Assumes nothing.
 use Rattle.std.specs.Prelude.{ℕ, zero, suc, ◌<◌, ◌⊎◌, Bool, cond, ◌&&◌, List, [], ◌∷◌}

@@ -2,7 +2,7 @@
 --
 --   Read                              a use that takes a wire
 --   listed_use_reads, listed_use_is   every listed use is one, of a node or of an OUT row
---   node_use_is_listed, result_use_is_listed, uses-once
+--   node_use_is_listed, result_use_is_listed, uses_once
 --   users_are, users_has, users_once  the uses of one wire
 --
 -- Assumes nothing.

@@ -1,9 +1,9 @@
 -- Lists without repeats, and the elements of a list by their places.
 --
 --   Among, Once               an element of a list; a list without repeats
---   among-left, among-right, among-split, once-append
+--   among_left, among_right, among_split, once_append
 --                             of two lists, one after the other
---   there, in-range, has-elem, elem-left, elem-right
+--   there, in_range, has_elem, elem_left, elem_right
 --                             the element at a place
 --
 -- Assumes nothing.

@@ -4,7 +4,7 @@
 --   state_refusal                      11 to 15, then 17 for a state that is not legal
 --   load_refusal, load_state            the number that load answers, and the state after it
 --   fire_refusal, fire_answer, fire_state
---   fired_number, fired_flag            the number for each case of the answer of fire; fire-number, fire-flag: of the answer itself
+--   fired_number, fired_flag            the number for each case of the answer of fire; fire_number, fire_flag: of the answer itself
 --   FireAnswer, LoadAnswer            what fire and load promise
 --   Fit, Given                        what the inner functions rely on
 --

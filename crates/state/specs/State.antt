@@ -4,7 +4,7 @@
 --   record_at                  a node's phase and three registers
 --   Stores, stored            words stored at places, one after the other
 --   emptied, filled, kept     the stores that take a token, give one, and leave a record
---   stored-append, length-stored
+--   stored_append, length_stored
 --
 -- Assumes nothing.
 use Rattle.std.specs.Prelude.{ℕ, zero, suc, ◌+◌, ◌*◌, Bool, true, false, ◌≡◌, refl, List, [], ◌∷◌, ◌++◌, get_or, set, length}

@@ -1,6 +1,6 @@
 -- What single firings do, each once for words and for flags: a step does not look at the row's sort.
 --
---   fork-copies, drain-swallows, split-routes-true, split-routes-false, invariant-opens, invariant-repeats, invariant-closes
+--   fork_copies, drain_swallows, split_routes_true, split_routes_false, invariant_opens, invariant_repeats, invariant_closes
 --
 -- Assumes nothing.
 use Rattle.std.specs.Prelude.{◌≡◌, Bool, true, false, ℕ, suc}

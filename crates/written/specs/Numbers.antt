@@ -4,7 +4,7 @@
 --   use_count, free_from      how many uses a wire has; the first free wire when its turn comes
 --   uses_counted              the uses of a wire: among the nodes' inputs, then among the results
 --   stands_at                 the wire of a use, from its source and how many uses of it came before
---   input0-stands, input1-stands, input2-stands, result-stands
+--   input0_stands, input1_stands, input2_stands, result_stands
 --   input_below_lem, out_below  sources are wires
 --
 -- Assumes nothing.

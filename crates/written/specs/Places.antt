@@ -1,6 +1,6 @@
 -- Where each node of a table stands before forks, and what its seven words are: from running sums and operands' numbers alone.
 --
---   op-place, stream-place, gate-place, guard-place, copy_split_place, copy_invariant_place, carry-place, arg_split_place
+--   op_place, stream_place, gate_place, guard_place, copy_split_place, copy_invariant_place, carry_place, arg_split_place
 --                             the number of each node
 --   op_node_lem, pick_node, stream_node_lem, ..  its words
 --   right_by                  a row with these words is right

@@ -1,9 +1,9 @@
 -- The words of a lowered table in the order in which a program writes them, each part by number.
 --
 --   first_at                   the first output number of node i
---   first-number, first_next, all_first
+--   first_number, first_next, all_first
 --   wire_sort_at              the sort of wire w
---   start-sort, sort-first, sort-second
+--   start_sort, sort_first, sort_second
 --   fork_list                 the DRAIN or the FORKs of a wire, from how many uses it has
 --   lowered_by_number         THE WORDS: header, starts, results, nodes before forks, forks
 --
