@@ -4,3 +4,4 @@ pub mod Homes
 pub mod Counting
 pub mod Linking
 pub mod Pairing
+pub mod RowKinds

@@ -12,3 +12,4 @@ pub mod Kept
 pub mod Right
 pub mod Nexts
 pub mod Cases
+pub mod Kinds

@@ -11,6 +11,11 @@ ghost use Rattle.table.specs.Check.{kind_before, outside, depth_right, end_right
 ghost use Rattle.table.specs.Clauses.{spare_word, code_word, follows_fault, args_in, next_fault, end_fault, stands_fault, place_fault, sight, hidden_word, mistyped_word, detail, name_detail, explained, Told};
 ghost use Rattle.table.specs.Kept.{entry_of, open_loops, depth_after, Counted, Noted};
 
+use std::error::Error;
+use std::fmt;
+
+ghost use Rattle.table.specs.Kinds.{kind_number, Decodes};
+
 // The kinds of rows.
 const INPUT: u32 = 0;
 
@@ -867,3 +872,75 @@ pub fn check_rows(table: &[u32]) -> Checked
         row: told.row,
     }
 }
+
+// The kinds of rows, in the order of their numbers.
+#[derive(Clone, Copy, Debug, PartialEq, Eq)]
+pub enum Kind {
+    Input,
+    Const,
+    Op,
+    Pick,
+    For,
+    Arg,
+    Next,
+    End,
+    Out,
+}
+
+impl Kind {
+    // The number that stands for it in a table.
+    pub fn number(self) -> u32
+        ensures { result ≡ kind_number self }
+    {
+        self as u32
+    }
+}
+
+// A number that stands for no kind.
+#[derive(Clone, Copy, Debug, PartialEq, Eq)]
+pub struct UnknownKind(pub u32);
+
+impl TryFrom<u32> for Kind {
+    type Error = UnknownKind;
+
+    ghost try_from_gives = { Decodes };
+
+    fn try_from(number: u32) -> Result<Self, UnknownKind> {
+        match number {
+            0 => Ok(Kind::Input),
+            1 => Ok(Kind::Const),
+            2 => Ok(Kind::Op),
+            3 => Ok(Kind::Pick),
+            4 => Ok(Kind::For),
+            5 => Ok(Kind::Arg),
+            6 => Ok(Kind::Next),
+            7 => Ok(Kind::End),
+            8 => Ok(Kind::Out),
+            _ => Err(UnknownKind(number)),
+        }
+    }
+}
+
+impl fmt::Display for Kind {
+    fn fmt<W: fmt::Write>(&self, f: &mut fmt::Formatter<W>) -> fmt::Result {
+        f.write_str(match self {
+            Kind::Input => "INPUT",
+            Kind::Const => "CONST",
+            Kind::Op => "OP",
+            Kind::Pick => "PICK",
+            Kind::For => "FOR",
+            Kind::Arg => "ARG",
+            Kind::Next => "NEXT",
+            Kind::End => "END",
+            Kind::Out => "OUT",
+        })
+    }
+}
+
+impl fmt::Display for UnknownKind {
+    fn fmt<W: fmt::Write>(&self, f: &mut fmt::Formatter<W>) -> fmt::Result {
+        write!(f, "no kind of row has the number {}", self.0)
+    }
+}
+
+impl Error for UnknownKind {}
