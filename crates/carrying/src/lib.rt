@@ -1,7 +1,7 @@
 // Lowering on lent words: what the entries keep of a table that has passed refusals 1 to 9.
 #![tactic(auto)]
 
-ghost use Rattle.std.specs.Prelude.{◌≡◌, ℕ, ◌+◌, ◌*◌, ◌<◌, ◌≤◌, eqb, leb, length, get_or};
+ghost use Rattle.std.specs.Prelude.{◌≡◌, ℕ, ◌+◌, ◌*◌, ◌<◌, ◌≤◌, eqb, leb, length, get_or, replicate};
 ghost use Rattle.word.specs.Words.{flag};
 ghost use Rattle.table.specs.Kinds.{kind_number};
 ghost use Rattle.table.specs.Rows.{kind_at, size};
@@ -62,6 +62,18 @@ fn result_of(kind: Kind) -> u32
     match kind {
         Kind::Out => 1,
         _ => 0,
+    }
+}
+
+impl Bases {
+    pub fn zero() -> Self
+        ensures { (result.nodes ≡ replicate 512 0) × (result.wires ≡ replicate 512 0) }
+    {
+        Bases {
+            nodes: [0; 512],
+            wires: [0; 512],
+            plain: Plain { nodes: 0, wires: 0 },
+        }
     }
 }
 
