@@ -12,7 +12,7 @@ use Rattle.forking.proofs.write_starts.Goals as goal
 
 pub loop-r-init : goal.loop-r-init
 unfolding joined those
-loop-r-init c = (omega arith, refl, refl, refl)
+loop-r-init c = (refl, refl, refl)
 
 pub overflow_mul-r : goal.overflow_mul-r
 overflow_mul-r c = omega arith
@@ -25,9 +25,6 @@ bounds-table-r c = omega arith
 
 pub overflow_mul-r-in-loop-r : goal.overflow_mul-r-in-loop-r
 overflow_mul-r-in-loop-r c = omega arith
-
-pub overflow_add-r : goal.overflow_add-r
-overflow_add-r c = omega arith
 
 pub offset_bounds-table-r-in-loop-r : goal.offset_bounds-table-r-in-loop-r
 offset_bounds-table-r-in-loop-r c = omega arith
@@ -44,18 +41,12 @@ overflow_add-at c = omega arith
 pub write_start-inputs-requires : goal.write_start-inputs-requires
 write_start-inputs-requires c = let n = those_few (λ q. eqb (kind_at c.args.table.now q) 0) c.loop-r.r in (omega arith, omega arith)
 
-pub overflow_add-r-in-loop-r : goal.overflow_add-r-in-loop-r
-overflow_add-r-in-loop-r c = omega arith
-
-pub loop-r-smaller : goal.loop-r-smaller
-loop-r-smaller c = omega arith
-
 pub loop-r-preserved : goal.loop-r-preserved
 loop-r-preserved c = let l = c.loop-r in let a = c.args in let m = inputs_more a.table.now l.r in let s = c.write_start-inputs.ensures.0 in
-    (omega arith, c.write_start-inputs.auto.graph ∙ l.invariant.1, omega arith, next_start_written a.table.now a.at l.r a.graph.now l.invariant.2 l.invariant.3 c.write_start-inputs.ensures.1)
+    (c.write_start-inputs.auto.graph ∙ l.invariant.0, omega arith, next_start_written a.table.now a.at l.r a.graph.now l.invariant.1 l.invariant.2 c.write_start-inputs.ensures.1)
 
 pub shape_of-graph : goal.shape_of-graph
-shape_of-graph c = c.loop-r.invariant.1
+shape_of-graph c = c.loop-r.invariant.0
 
 pub returns : goal.returns
-returns c = let last : c.loop-r.r ≡ c.args.starts = omega arith in rw (← last) c.loop-r.invariant.3
+returns c = let last : c.loop-r.r ≡ c.args.starts = omega arith in rw (← last) c.loop-r.invariant.2

@@ -9,7 +9,7 @@ use Rattle.forking.specs.Sorted.{outputs_fit}
 use Rattle.forking.specs.Written.{row_inputs, joined_long}
 use Rattle.forking.specs.Tallied.{none_tallied}
 use Rattle.lowering.proofs.Whole.{rooms_of, graph_written}
-use Rattle.forking.proofs.Uses.{looser, tally_below}
+use Rattle.forking.proofs.Tallies.{looser, tally_below}
 use Rattle.lowering.proofs.write_graph.Goals as goal
 
 pub four-requires : goal.four-requires
