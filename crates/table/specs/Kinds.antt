@@ -1,5 +1,5 @@
 -- The kinds of rows as the code has them, and the numbers that stand for them in a table.
--- Main names: `kind_number`, `Decodes`.
+-- Main names: `kind_number`, `Decodes`; `one_kind`, `apart` and `either`, what a test of kinds says of their numbers.
 -- Assumes nothing.
 use Rattle.std.specs.Prelude.{ℕ, ◌≡◌, ◌≢◌, ◌⊎◌, cond, eqb, refl, ◌<◌, Result, MatchResult}
 use Rattle.std.proofs.Common.{sym, ap, ◌∙◌, inl, inr}
