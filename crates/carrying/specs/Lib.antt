@@ -6,3 +6,4 @@ pub mod Way
 pub mod Homes
 pub mod Served
 pub mod Zeros
+pub mod Checked

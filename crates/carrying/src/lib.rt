@@ -1,8 +1,11 @@
 // Lowering on lent words: what the entries keep of a table that has passed refusals 1 to 9.
 #![tactic(auto)]
 
-ghost use Rattle.std.specs.Prelude.{◌≡◌, ℕ, ◌+◌, ◌*◌, ◌<◌, ◌≤◌, eqb, leb, length, get_or, replicate};
+ghost use Rattle.std.specs.Prelude.{◌≡◌, ℕ, ◌+◌, ◌*◌, ◌<◌, ◌≤◌, eqb, leb, length, get_or, replicate, IfOk};
 ghost use Rattle.word.specs.Words.{flag};
+ghost use Rattle.refusal.specs.Numbers.{refused_number, refused_row};
+ghost use Rattle.refusal.specs.declared.Refusal.TheVariants.{Room};
+ghost use Rattle.table.specs.Check.{answer, table_refusal};
 ghost use Rattle.table.specs.Kinds.{kind_number};
 ghost use Rattle.table.specs.Rows.{kind_at, size};
 ghost use Rattle.table.specs.Bodies.{arg_of};
@@ -12,6 +15,7 @@ ghost use Rattle.laid.specs.Bases.{node_base, wire_base};
 ghost use Rattle.carrying.specs.Facts.{noted-prop};
 ghost use Rattle.carrying.specs.Kept.{Passing, Bodies, Pairs, PairsBefore, Uses, Noted, Counted, Bases as BasesOf, Low, home_from};
 
+use refusal::{Refusal, Refused};
 use table::Kind;
 
 // A table that passes refusals 1 to 9, with its row count.
@@ -78,6 +82,28 @@ impl Bases {
 }
 
 impl<'a> Passed<'a> {
+    // A table that is refused by none of 1 to 9.
+    pub fn check(words: &'a [u32]) -> Result<Self, Refused>
+        ensures answer { answer (refused_number result) (refused_row result) ≡ table_refusal words.now }
+        ensures words { IfOk result (λ p. p.words.now ≡ words.now) }
+    {
+        table::check_rows(words)?;
+        Ok(Passed {
+            words,
+            rows: (words.len() / 6) as u32,
+        })
+    }
+
+    // The refusal of a table whose graph has no room.
+    pub fn crowded(&self) -> Refused
+        ensures { (result.why ≡ Room) × (result.row ≡ self.now.rows) }
+    {
+        Refused {
+            why: Refusal::Room,
+            row: self.rows,
+        }
+    }
+
     pub fn kind(&self, r: u32) -> Kind
         requires { r < self.now.rows }
         ensures { kind_number result ≡ kind_at self.now.words.now r }

@@ -32,7 +32,7 @@ use Rattle.lowered.specs.Lower.{carried_into, copy, row_roles, roles, starts, ou
 use Rattle.laid.specs.Those.{those_few}
 use Rattle.laid.specs.Bases.{length_pieces, starts_long}
 use Rattle.carrying.specs.Kept.{Passing, Pairs, Uses, Counted}
-use Rattle.measuring.specs.Passed.{structure_of, number_is}
+use Rattle.carrying.specs.Checked.{structure_of, number_is}
 use Rattle.measuring.specs.Ready.{starts_few}
 use Rattle.counting.specs.Idle.{length_those, named_any, named_from, named_by, row_uses, row_idle, totals_by_rows, uses_of_for, uses_of_other, idle_of_start, idle_of_op, idle_of_for, idle_of_arg, idle_of_other}
 use Rattle.counting.specs.Answers.{counts, count_answer}

@@ -399,13 +399,13 @@ pub struct Counts {
 }
 
 // Counts what the table lays down, and lays it down where the nodes fit.
-pub fn lay(passed: Passed, rows: &mut [u32; 28672], outs: &mut [u32; 512]) -> Counts
+pub fn lay(passed: &Passed, rows: &mut [u32; 28672], outs: &mut [u32; 512]) -> Counts
     requires { (length rows.old ≡ 28672) × (length outs.old ≡ 512) }
-    ensures { (result.nodes ≡ plain_nodes passed.entry.words.now) × (result.wires ≡ plain_wires passed.entry.words.now) × (result.starts ≡ start_total passed.entry.words.now) × (result.results ≡ result_total passed.entry.words.now) × ((plain_nodes passed.entry.words.now ≤ 4096) → Laid passed.entry.words.now rows.new × Outs passed.entry.words.now outs.new) }
+    ensures { (result.nodes ≡ plain_nodes passed.now.words.now) × (result.wires ≡ plain_wires passed.now.words.now) × (result.starts ≡ start_total passed.now.words.now) × (result.results ≡ result_total passed.now.words.now) × ((plain_nodes passed.now.words.now ≤ 4096) → Laid passed.now.words.now rows.new × Outs passed.now.words.now outs.new) }
 {
     let starts = passed.count_starts();
     let results = passed.count_results();
-    let notes = Notes::new(passed);
+    let notes = Notes::new(*passed);
     let counts = count_copies(&notes, rows);
     let bases = passed.note_bases(starts, &counts);
     if bases.plain.nodes <= ROOM {

@@ -13,7 +13,7 @@ use Rattle.table.specs.Rows.{size}
 use Rattle.table.specs.Check.{Refusal, answer, table_refusal}
 use Rattle.lowered.specs.Lower.{node_total, wire_total}
 use Rattle.lowered.specs.Room.{in_limits, refused_by}
-use Rattle.measuring.specs.Passed.{and_false, refused_by_lem, passed_by}
+use Rattle.carrying.specs.Checked.{and_false, refused_by_lem, passed_by}
 use Rattle.measuring.specs.Ready.{Ready}
 use Rattle.naming.specs.Names.{node_names, wire_names}
 use Rattle.naming.specs.Carried.{UsesRight}

@@ -14,4 +14,3 @@ pub mod Kept
 pub mod Right
 pub mod Nexts
 pub mod Cases
-pub mod Kinds

@@ -5,7 +5,7 @@ use mathlib.Core.Path.{refl}
 use native.Mathlib.Omega.{arith}
 use lib.ListN.{length-replicate, get_or-replicate}
 use Rattle.counting.proofs.Counting.{count_refused, counted_all, nodes_are, wires_are, wires_within, plain_low}
-use Rattle.measuring.specs.Passed.{few_rows, passing}
+use Rattle.carrying.specs.Checked.{few_rows, passing}
 use Rattle.counting.proofs.count_table.Goals as goal
 
 pub returns-then-checked-ne0 : goal.returns-then-checked-ne0

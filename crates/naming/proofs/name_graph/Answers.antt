@@ -5,7 +5,7 @@ use mathlib.Core.Path.{refl, ◌∙◌}
 use native.Mathlib.Omega.{arith}
 use lib.ListN.{length, length-replicate}
 use Rattle.naming.proofs.Answers.{words_fit, uses_known, name_refused, name_crowded, few_nodes_lent, few_wires_lent, name_done}
-use Rattle.measuring.specs.Passed.{off, on, few_rows, passing}
+use Rattle.carrying.specs.Checked.{off, on, few_rows, passing}
 use Rattle.forking.specs.Tallied.{none_tallied}
 use Rattle.naming.proofs.name_graph.Goals as goal
 
