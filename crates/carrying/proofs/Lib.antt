@@ -4,4 +4,3 @@ pub mod Homes
 pub mod Counting
 pub mod Linking
 pub mod Pairing
-pub mod RowKinds

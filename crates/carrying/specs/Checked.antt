@@ -1,5 +1,5 @@
 -- What a caller knows of a table whose check answered 0.
--- Main names: `structure_of`, `few_rows`, `passing`; `refused_by_lem` and `passed_by` for the answers that end with ROOM.
+-- Main names: `structure_of`, `few_rows`, `passing`, `fitting`; `refused_by_lem` and `passed_by` for the answers that end with ROOM.
 -- Assumes nothing.
 use Rattle.std.specs.Prelude.{ℕ, ◌≤◌, ◌≡◌, refl, Bool, true, false, cond, ◌&&◌, not, List}
 use Rattle.std.proofs.Common.{sym, ap, ◌∙◌, arith, ne_eqb}
@@ -26,6 +26,11 @@ off false e = refl
 pub on : (b : Bool) → not b ≡ false → b ≡ true
 on true e = refl
 on false e = sym e
+
+-- an answer that refuses nothing says that there is room
+pub fitting : (b : Bool) (n : ℕ) → answer 0 0 ≡ cond b (answer 0 0) (answer 10 n) → b ≡ true
+fitting true n h = refl
+fitting false n h = let q : (answer 0 0).number ≡ (answer 10 n).number = ap (λ (a : Refusal). a.number) h in absurd (omega arith)
 
 pub structure_of : (t : List ℕ) (n : ℕ) → Passing t n → Structure t
 structure_of t n P = passing_table_has_structure t (right_table_passes t P.right)

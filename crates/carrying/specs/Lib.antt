@@ -7,3 +7,4 @@ pub mod Homes
 pub mod Served
 pub mod Zeros
 pub mod Checked
+pub mod Starts

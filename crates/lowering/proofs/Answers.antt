@@ -14,7 +14,7 @@ use Rattle.table.specs.Check.{Refusal, answer, table_refusal}
 use Rattle.lowered.specs.Lower.{lowered_words}
 use Rattle.lowered.specs.Room.{in_limits, fits_into, refused_by, check_answer, lower_refusal, lower_answer, lent_after}
 use Rattle.laid.specs.Words.{words_long}
-use Rattle.carrying.specs.Checked.{and_false, refused_by_lem, passed_by}
+use Rattle.carrying.specs.Checked.{and_false, fitting, refused_by_lem, passed_by}
 use Rattle.measuring.specs.Ready.{Counted}
 use Rattle.lowering.specs.Answers.{LowerAnswer}
 
@@ -28,10 +28,6 @@ words_are t C a b c =
     let e1 = C.results in
     let e2 = C.nodes in
     omega arith
-
-fitting : (b : Bool) (n : ℕ) → answer 0 0 ≡ cond b (answer 0 0) (answer 10 n) → b ≡ true
-fitting true n h = refl
-fitting false n h = let q : (answer 0 0).number ≡ (answer 10 n).number = ap (λ (a : Refusal). a.number) h in absurd (omega arith)
 
 module _ (t : List ℕ) {k r : ℕ} (e : answer k r ≡ table_refusal t) where
   -- ---- check_table

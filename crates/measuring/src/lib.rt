@@ -36,7 +36,11 @@ fn in_limits(nodes: u32, wires: u32) -> bool
 }
 
 // Lays a table's nodes down and counts everything; refusal 10 where a count is over its limit. A table over a limit before forks is over it with them.
-pub fn measure(passed: &Passed, rows: &mut [u32; 28672], outs: &mut [u32; 512]) -> Result<Sizes, Refused>
+pub fn measure(
+    passed: &Passed,
+    rows: &mut [u32; 28672],
+    outs: &mut [u32; 512],
+) -> Result<Sizes, Refused>
     requires { (length rows.old ≡ 28672) × (length outs.old ≡ 512) }
     ensures answer { answer (refused_number result) (refused_row result) ≡ cond (room.in_limits passed.now.words.now) (answer 0 0) (answer 10 (size passed.now.words.now)) }
     ensures ready { IfOk result (λ s. Ready passed.now.words.now rows.new outs.new s.uses.count s.uses.free × Counted passed.now.words.now s.plain s.sources s.nodes s.wires s.starts s.results) }

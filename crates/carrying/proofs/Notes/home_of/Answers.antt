@@ -2,7 +2,7 @@
 use Rattle.std.proofs.Common.{refl, arith}
 use Rattle.table.specs.Kinds.{apart}
 use Rattle.table.specs.declared.Kind.TheVariants.{For, Next}
-use Rattle.carrying.proofs.RowKinds.{of_start, of_no_start}
+use Rattle.carrying.specs.Starts.{of_start, of_no_start}
 use Rattle.carrying.proofs.Scanning.{start_home, for_home, next_body_below, next_home, other_home}
 use Rattle.carrying.proofs.Notes.home_of.Goals as goal
 

@@ -2,7 +2,7 @@
 use Rattle.std.proofs.Common.{refl, arith}
 use Rattle.table.specs.Kinds.{apart}
 use Rattle.table.specs.declared.Kind.TheVariants.{For, Arg}
-use Rattle.carrying.proofs.RowKinds.{of_start, of_no_start, of_node, of_no_node}
+use Rattle.carrying.specs.Starts.{of_start, of_no_start, of_node, of_no_node}
 use Rattle.carrying.proofs.Homes.{start_home, op_home, for_home, arg_home, next_home, noted_arg, noted_arg_below}
 use Rattle.carrying.proofs.Notes.home_wire.Goals as goal
 
