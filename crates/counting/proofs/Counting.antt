@@ -6,6 +6,8 @@
 --   counted_all, count_refused    the answer
 --
 -- Assumes nothing.
+use Rattle.std.proofs.Common.{eqb-true}
+use Rattle.std.proofs.lemmas.Bool.{eqb-false}
 use Prim.Native.Nat.{ℕ, zero, suc, ◌+◌, ◌-◌, ◌*◌, ◌<◌, ◌≤◌}
 use mathlib.Core.Path.{◌≡◌, refl, sym, ap, ◌∙◌, subst}
 use mathlib.Core.Logic.{◌≢◌, ◌⊎◌, inl, inr}
@@ -92,6 +94,13 @@ module _ (t : List ℕ) (n : ℕ) (P : Passing t n) (heads links : List ℕ) (U 
       go : (get_or heads v 0 ≡ 0) ⊎ ((r : ℕ) × (j : ℕ) × (get_or heads v 0 ≡ suc (3 * r + j)) × ((r < size t) × (j < operand_count (kind_at t r))) × (operand t r j ≡ v)) → 0 ≡ flag (not (named_any t v))
       go (inl z) = absurd (e z)
       go (inr m) = rw (named_by t m.0 m.1 v m.3.0 m.3.1 m.4)
+
+  pub unnamed_iff : v < n → flag (eqb (get_or heads v 0) 0) ≡ flag (not (named_any t v))
+  unnamed_iff l = go (eqb (get_or heads v 0) 0) refl
+    where
+      go : (b : Bool) → eqb (get_or heads v 0) 0 ≡ b → flag b ≡ flag (not (named_any t v))
+      go true q = unnamed_is l (eqb-true (get_or heads v 0) 0 q)
+      go false q = named_is l (eqb-false (get_or heads v 0) 0 q)
 
 -- ---- so many that no sum leaves a word
 
