@@ -82,7 +82,7 @@ in_state None len h = tt
 in_state (Some w) len h = h w refl
 
 module _ (g : List ℕ) (i : ℕ) (h : i < node_count g) {p : ℕ} (e : p ≡ row_place g i) where
-  node_read : node_at g i ≡ node_of (kind_of (get_or g p 0)) (get_or g (p + 1) 0) (get_or g (p + 2) 0) (get_or g (p + 3) 0) (get_or g (p + 4) 0) (get_or g (p + 5) 0) (get_or g (p + 6) 0)
+  pub node_read : node_at g i ≡ node_of (kind_of (get_or g p 0)) (get_or g (p + 1) 0) (get_or g (p + 2) 0) (get_or g (p + 3) 0) (get_or g (p + 4) 0) (get_or g (p + 5) 0) (get_or g (p + 6) 0)
   unfolding row_at
   node_read = node_is_row g i h e
 

@@ -169,7 +169,8 @@ fn start_right(kind: u32, word: u32, inputs: u32) -> bool
     }
 }
 
-fn inputs_after(kind: u32, inputs: u32) -> u32
+// The inputs numbered so far, after one more start.
+pub fn inputs_after(kind: u32, inputs: u32) -> u32
     requires { inputs < 512 }
     ensures { result ≡ inputs + flag (eqb kind 0) }
 {
