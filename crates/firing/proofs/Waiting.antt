@@ -10,12 +10,19 @@ use native.Mathlib.Omega.{arith}
 use lib.ListN.{get_or, length}
 use Rattle.step.specs.Kinds.{Kind, kind_of, STREAM, GATE, CARRY, INVARIANT, SPLIT, FORK, DRAIN, OP, PICK, Input, in0, in1, in2, out0, out1}
 use Rattle.step.specs.Firing.{View}
+use Rattle.step.specs.Named.{named}
+use Rattle.step.specs.declared.Kind.{Kind as Code}
 use Rattle.graph.specs.Graph.{Node, row_at, node_at, wire_count, row_place, has_input, has_output, wire_on, input_of, output_of}
 use Rattle.graph.proofs.Rows.{node_is_row}
 use Rattle.state.specs.State.{token, is_empty, token_at, token_on, has_room, record_at}
 use Rattle.state.specs.Net.{view, net_of}
 use Rattle.firing.specs.Acted.{Placed}
 use Rattle.firing.specs.Waiting.{waits_on, empty_at, is_none, waiting_at}
+
+-- ---- a kind, as it was read
+
+pub kind_is : {κ l : Code} (n : ℕ) → some (named κ) ≡ kind_of n → κ ≡ l → kind_of n ≡ some (named l)
+kind_is n e q = sym e ∙ ap (λ (x : Code). some (named x)) q
 
 -- ---- later phases
 

@@ -5,25 +5,24 @@
 ghost use Rattle.std.specs.Prelude.{◌≡◌, Bool, true, false, not, ◌||◌, ℕ, ◌+◌, ◌*◌, ◌<◌, ◌≤◌, length, get_or, set};
 ghost use Rattle.std.proofs.Math.Option.{some, none};
 ghost use Rattle.word.specs.Words.{pick};
-ghost use Rattle.step.specs.Shown.{token_of, shown};
-ghost use Rattle.lent.specs.Left.{left_by};
+ghost use Rattle.step.specs.Shown.{token_of};
 ghost use Rattle.graph.specs.Graph.{node_count, wire_count, node_at};
 ghost use Rattle.graph.specs.Refusal.{Shaped};
-ghost use Rattle.state.specs.Net.{view, effect_at, fire, is_ready, or_else, net_of};
-ghost use Rattle.firing.specs.Acted.{act_stores, Room, Reads, Within, Sees, Placed};
+ghost use Rattle.state.specs.Net.{view, fire, is_ready, or_else, net_of};
+ghost use Rattle.firing.specs.Acted.{InState, act_stores, Reads, Within, Sees, Placed};
 ghost use Rattle.firing.specs.Waiting.{empty_at, waiting_at};
 ghost use Rattle.state.specs.State.{token_at, token_on, is_empty, has_room, record_at, stored, emptied, filled, kept};
 
+use step::Kind;
+
 // What stands on a wire.
-fn token_at(state: &[u32], wire: usize) -> step::Token
+fn token_at(state: &[u32], wire: usize) -> Option<u32>
     requires { 2 * wire + 1 < length state.now }
     ensures token { token_of result ≡ token_at state.now wire }
 {
-    let full = state[2 * wire];
-    let word = state[2 * wire + 1];
-    match full {
-        0 => step::Token { full: false, word },
-        _ => step::Token { full: true, word },
+    match state[2 * wire] {
+        0 => None,
+        _ => Some(state[2 * wire + 1]),
     }
 }
 
@@ -31,35 +30,25 @@ pub fn is_empty(state: &[u32], wire: usize) -> bool
     requires { 2 * wire + 1 < length state.now }
     ensures room { result ≡ is_empty (get_or state.now (2 * wire) 0) }
 {
-    let full = state[2 * wire];
-    match full {
-        0 => true,
-        _ => false,
-    }
+    state[2 * wire] == 0
 }
 
 // The same on a place that the node may not have: there is no token there, and no room.
-fn token_on(state: &[u32], present: bool, wire: usize) -> step::Token
-    requires { present ≡ true → 2 * wire + 1 < length state.now }
-    ensures token { token_of result ≡ token_on state.now (pick present (some wire) none) }
+fn token_on(state: &[u32], wire: Option<usize>) -> Option<u32>
+    requires { InState wire (length state.now) }
+    ensures token { token_of result ≡ token_on state.now (token_of wire) }
 {
-    if present {
-        return token_at(state, wire);
-    }
-    step::Token {
-        full: false,
-        word: 0,
-    }
+    token_at(state, wire?)
 }
 
-fn room_on(state: &[u32], present: bool, wire: usize) -> bool
-    requires { present ≡ true → 2 * wire + 1 < length state.now }
-    ensures room { result ≡ has_room state.now (pick present (some wire) none) }
+fn room_on(state: &[u32], wire: Option<usize>) -> bool
+    requires { InState wire (length state.now) }
+    ensures room { result ≡ has_room state.now (token_of wire) }
 {
-    if present {
-        return is_empty(state, wire);
+    match wire {
+        Some(wire) => is_empty(state, wire),
+        None => false,
     }
-    false
 }
 
 pub fn record_at(state: &[u32], wires: usize, i: usize) -> step::Record
@@ -84,21 +73,25 @@ fn put(state: &mut [u32], wire: usize, full: u32, word: u32)
     state[2 * wire + 1] = word;
 }
 
-fn take_if(state: &mut [u32], taken: bool, wire: usize)
-    requires { taken ≡ true → 2 * wire + 1 < length state.old }
-    ensures state { state.new ≡ stored (emptied (some wire) taken) state.old }
+fn take(state: &mut [u32], wire: Option<usize>, taken: bool)
+    requires { InState wire (length state.old) }
+    ensures state { state.new ≡ stored (emptied (token_of wire) taken) state.old }
 {
-    if taken {
-        put(state, wire, 0, 0);
+    if let Some(wire) = wire {
+        if taken {
+            put(state, wire, 0, 0);
+        }
     }
 }
 
-fn give_if(state: &mut [u32], given: step::Token, wire: usize)
-    requires { given.full ≡ true → 2 * wire + 1 < length state.old }
-    ensures state { state.new ≡ stored (filled (some wire) (token_of given)) state.old }
+fn give(state: &mut [u32], wire: Option<usize>, word: Option<u32>)
+    requires { InState wire (length state.old) }
+    ensures state { state.new ≡ stored (filled (token_of wire) (token_of word)) state.old }
 {
-    if given.full {
-        put(state, wire, 1, given.word);
+    if let Some(wire) = wire {
+        if let Some(word) = word {
+            put(state, wire, 1, word);
+        }
     }
 }
 
@@ -113,42 +106,14 @@ fn keep(state: &mut [u32], wires: usize, i: usize, left: step::Record)
     state[at + 3] = left.r2;
 }
 
-// All that a firing does: three inputs, two outputs, and the record that it left.
-fn act(
-    state: &mut [u32],
-    done: step::Act,
-    left: step::Record,
-    w0: usize,
-    w1: usize,
-    w2: usize,
-    first: usize,
-    wires: usize,
-    i: usize,
-)
-    requires { Room done w0 w1 w2 first wires i (length state.old) }
-    ensures state { state.new ≡ stored (act_stores done left w0 w1 w2 first wires i) state.old }
-{
-    let takes = done.takes;
-    take_if(state, takes.in0, w0);
-    take_if(state, takes.in1, w1);
-    take_if(state, takes.in2, w2);
-    give_if(state, done.gives0, first);
-    give_if(state, done.gives1, first + 1);
-    keep(state, wires, i, left);
-}
-
-// A node's row: the numbers of its wires, and how many places its kind has.
+// A node's row: its kind, code and sort, and the wire on each place, where its kind has the place.
 #[derive(Clone, Copy)]
 pub struct Row {
     pub kind: u32,
     pub code: u32,
     pub sort: u32,
-    pub inputs: u32,
-    pub outputs: u32,
-    pub wire0: usize,
-    pub wire1: usize,
-    pub wire2: usize,
-    pub first: usize,
+    pub inputs: [Option<usize>; 3],
+    pub outputs: [Option<usize>; 2],
 }
 
 pub fn row_of(graph: &[u32], i: usize) -> Row
@@ -159,20 +124,20 @@ pub fn row_of(graph: &[u32], i: usize) -> Row
     let kind = graph[at];
     let inputs = graph::inputs_of(kind);
     let outputs = graph::outputs_of(kind);
-    let wire0 = graph::wide(graph[at + 3]);
-    let wire1 = graph::wide(graph[at + 4]);
-    let wire2 = graph::wide(graph[at + 5]);
     let first = graph::wide(graph[at + 6]);
     Row {
         kind,
         code: graph[at + 1],
         sort: graph[at + 2],
-        inputs,
-        outputs,
-        wire0,
-        wire1,
-        wire2,
-        first,
+        inputs: [
+            (0 < inputs).then_some(graph::wide(graph[at + 3])),
+            (1 < inputs).then_some(graph::wide(graph[at + 4])),
+            (2 < inputs).then_some(graph::wide(graph[at + 5])),
+        ],
+        outputs: [
+            (0 < outputs).then_some(first),
+            (1 < outputs).then_some(first + 1),
+        ],
     }
 }
 
@@ -181,30 +146,33 @@ pub fn see(state: &[u32], row: Row) -> step::Seen
     requires { Within row (length state.now) }
     ensures seen { Sees state.now row result }
 {
-    let in0 = token_on(state, 0 < row.inputs, row.wire0);
-    let in1 = token_on(state, 1 < row.inputs, row.wire1);
-    let in2 = token_on(state, 2 < row.inputs, row.wire2);
-    let room0 = room_on(state, 0 < row.outputs, row.first);
-    let room1 = room_on(state, 1 < row.outputs, row.first + 1);
+    let [input0, input1, input2] = row.inputs;
+    let [output0, output1] = row.outputs;
     step::Seen {
-        in0,
-        in1,
-        in2,
-        room0,
-        room1,
+        inputs: [
+            token_on(state, input0),
+            token_on(state, input1),
+            token_on(state, input2),
+        ],
+        room: [room_on(state, output0), room_on(state, output1)],
     }
 }
 
-// What the node would do now, and its record after that. The record is taken out of the state and lent to the firing, which changes it in place.
-fn look(graph: &[u32], state: &[u32], i: usize) -> lent::After
-    requires { Placed graph.now i (length state.now) }
-    ensures effect { (shown result.firing ≡ effect_at (net_of graph.now) i state.now) × (result.own ≡ left_by (effect_at (net_of graph.now) i state.now) (record_at (wire_count graph.now) state.now i)) }
+// All that a firing does: three inputs, two outputs, and the record that it left.
+fn act(state: &mut [u32], row: Row, done: step::Act, left: step::Record, wires: usize, i: usize)
+    requires { Within row (length state.old) × (2 * wires + 4 * i + 3 < length state.old) }
+    ensures state { state.new ≡ stored (act_stores row done left wires i) state.old }
 {
-    let row = row_of(graph, i);
-    let wires = graph::wide(graph[1]);
-    let seen = see(state, row);
-    let own = record_at(state, wires, i);
-    lent::advanced(row.kind, row.code, seen, own)
+    let [input0, input1, input2] = row.inputs;
+    let [takes0, takes1, takes2] = done.takes;
+    take(state, input0, takes0);
+    take(state, input1, takes1);
+    take(state, input2, takes2);
+    let [output0, output1] = row.outputs;
+    let [gives0, gives1] = done.gives;
+    give(state, output0, gives0);
+    give(state, output1, gives1);
+    keep(state, wires, i, left);
 }
 
 // A node that waits, told before its firing is worked out, which costs many times as much: by kind and phase, an input that it needs is empty,
@@ -223,10 +191,7 @@ fn lacks_input(graph: &[u32], state: &[u32], at: usize) -> bool
     requires { (at + 4 < length graph.now) × (2 * get_or graph.now (at + 3) 0 + 1 < length state.now) × (2 * get_or graph.now (at + 4) 0 + 1 < length state.now) }
     ensures waits { result ≡ (empty_at graph.now state.now (at + 3) || empty_at graph.now state.now (at + 4)) }
 {
-    if empty_at(graph, state, at, 3) {
-        return true;
-    }
-    empty_at(graph, state, at, 4)
+    empty_at(graph, state, at, 3) || empty_at(graph, state, at, 4)
 }
 
 // A FORK's input is empty, or its first output full.
@@ -234,10 +199,7 @@ fn fork_waits(graph: &[u32], state: &[u32], at: usize) -> bool
     requires { (at + 6 < length graph.now) × (2 * get_or graph.now (at + 3) 0 + 1 < length state.now) × (2 * get_or graph.now (at + 6) 0 + 1 < length state.now) }
     ensures waits { result ≡ (empty_at graph.now state.now (at + 3) || not (empty_at graph.now state.now (at + 6))) }
 {
-    if empty_at(graph, state, at, 3) {
-        return true;
-    }
-    !empty_at(graph, state, at, 6)
+    empty_at(graph, state, at, 3) || !empty_at(graph, state, at, 6)
 }
 
 // Whether node i waits. If so it is not ready: `waiting_is_not_ready`.
@@ -248,61 +210,56 @@ pub fn waits(graph: &[u32], state: &[u32], i: usize) -> bool
     let at = graph::row_place(graph, i);
     let wires = graph::wide(graph[1]);
     let phase = state[2 * wires + 4 * i];
-    let kind = graph[at];
-    match kind {
-        0 => match phase {
+    match Kind::try_from(graph[at]) {
+        Ok(Kind::Stream) => match phase {
             0 => empty_at(graph, state, at, 3),
             _ => !empty_at(graph, state, at, 6),
         },
-        1 => lacks_input(graph, state, at),
-        2 => match phase {
+        Ok(Kind::Gate) => lacks_input(graph, state, at),
+        Ok(Kind::Carry) => match phase {
             0 => empty_at(graph, state, at, 4),
             1 => empty_at(graph, state, at, 3),
             _ => empty_at(graph, state, at, 5),
         },
-        3 => match phase {
+        Ok(Kind::Invariant) => match phase {
             0 => empty_at(graph, state, at, 4),
             _ => empty_at(graph, state, at, 3),
         },
-        4 => lacks_input(graph, state, at),
-        5 => fork_waits(graph, state, at),
-        6 => empty_at(graph, state, at, 3),
-        7 => lacks_input(graph, state, at),
-        8 => lacks_input(graph, state, at),
-        _ => true,
+        Ok(Kind::Split) => lacks_input(graph, state, at),
+        Ok(Kind::Fork) => fork_waits(graph, state, at),
+        Ok(Kind::Drain) => empty_at(graph, state, at, 3),
+        Ok(Kind::Op) => lacks_input(graph, state, at),
+        Ok(Kind::Pick) => lacks_input(graph, state, at),
+        Err(_) => true,
     }
 }
 
-// Whether node i is ready.
+// Whether node i is ready: its record is taken out of the state and lent to a firing of which nothing is stored.
 pub fn node_ready(graph: &[u32], state: &[u32], i: usize) -> bool
     requires { Placed graph.now i (length state.now) }
     ensures ready { result ≡ is_ready (fire (net_of graph.now) i state.now) }
 {
-    let looked = look(graph, state, i);
-    let firing = looked.firing;
-    match firing {
-        step::Firing::NotReady => false,
-        step::Firing::Fires(_) => true,
-    }
+    let row = row_of(graph, i);
+    let seen = see(state, row);
+    let mut own = record_at(state, graph::wide(graph[1]), i);
+    lent::advance(&mut own, row.kind, row.code, seen).is_some()
 }
 
-// Whether node i was ready; if so it has fired, else nothing has changed.
+// Whether node i was ready; if so it has fired, else nothing has changed. Its record is taken out of the state, lent to the firing, which changes
+// it in place, and stored with what the firing does.
 pub fn fire_node(graph: &[u32], state: &mut [u32], i: usize) -> bool
     requires { Placed graph.now i (length state.old) }
     ensures fired { (result ≡ is_ready (fire (net_of graph.now) i state.old)) × (state.new ≡ or_else (fire (net_of graph.now) i state.old) state.old) }
 {
-    let looked = look(graph, state, i);
-    let firing = looked.firing;
-    let left = looked.own;
-    match firing {
-        step::Firing::NotReady => false,
-        step::Firing::Fires(done) => {
-            let row = row_of(graph, i);
-            let wires = graph::wide(graph[1]);
-            act(
-                state, done, left, row.wire0, row.wire1, row.wire2, row.first, wires, i,
-            );
+    let row = row_of(graph, i);
+    let wires = graph::wide(graph[1]);
+    let seen = see(state, row);
+    let mut own = record_at(state, wires, i);
+    match lent::advance(&mut own, row.kind, row.code, seen) {
+        Some(done) => {
+            act(state, row, done, own, wires, i);
             true
         }
+        None => false,
     }
 }

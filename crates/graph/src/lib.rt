@@ -4,12 +4,17 @@
 ghost use Rattle.std.specs.Prelude.{◌≡◌, true, ◌&&◌, ℕ, ◌+◌, ◌*◌, ◌<◌, ◌≤◌, eqb, ltb, length, get_or, set, [], ◌∷◌};
 ghost use Rattle.std.proofs.lemmas.List.Edits.{sets};
 ghost use Rattle.word.specs.Words.{pick, flag};
-ghost use Rattle.step.specs.Kinds.{kind_of, columns_of, inputs, outputs, codes, own_sorts, operator_sort, place_sort, in0, in1, out0, out1};
+ghost use Rattle.refusal.specs.Numbers.{answer_number};
+ghost use Rattle.step.specs.Kinds.{kind_of, row, columns_of, inputs, outputs, codes, own_sorts, operator_sort, place_sort, Input, Output};
 ghost use Rattle.graph.specs.Below.{every, joined};
-ghost use Rattle.graph.specs.Said.{place_of, said};
+ghost use Rattle.graph.specs.Said.{named, place_at, said};
 ghost use Rattle.graph.specs.Counted.{once_more, counted};
-ghost use Rattle.graph.specs.Graph.{absent, node_count, wire_count, start_count, result_count, result_at, row_place, column, node_at, output_count, first_at, node_reads, results, input_sort_of, output_sort_of, output_sorts, sort_at};
+ghost use Rattle.graph.specs.Graph.{absent, node_count, wire_count, start_count, result_count, result_at, row_place, column, node_at, input_place, output_place, output_count, first_at, node_reads, results, input_sort_of, output_sort_of, output_sorts, sort_at};
 ghost use Rattle.graph.specs.Refusal.{has_shape, Shaped, start_right, row_right, node_right, rows_right, node_below, result_below, wires_below, read_once, node_sorted, result_sorted, sorts_agree, graph_refusal};
+
+use Place::{Flag, Given, Own};
+use refusal::Refusal;
+use step::Kind;
 
 // Stands for an absent input or output.
 pub const ABSENT: u32 = 4294967295;
@@ -22,110 +27,66 @@ const MOST_STARTS: u32 = 512;
 
 const MOST_RESULTS: u32 = 512;
 
-// The answers.
-const ACCEPTED: u32 = 0;
-
-const SHAPE: u32 = 11;
-
-const NODE: u32 = 12;
-
-const WIRE: u32 = 13;
-
-const READERS: u32 = 14;
-
-const SORT: u32 = 15;
-
 pub fn wide(x: u32) -> usize
     ensures { (result ≡ x) × (result < 4294967296) }
 {
     x as usize
 }
 
-// A word of a table of bytes.
-pub fn word_of(byte: u8) -> u32
-    ensures { result ≡ byte }
-{
-    byte as u32
+// What stands on a place: a word of the row's own sort, a flag, or what the row's operator gives.
+#[derive(Clone, Copy)]
+enum Place {
+    Own,
+    Flag,
+    Given,
 }
 
-// The kinds of nodes.
-const STREAM: u32 = 0;
-
-const GATE: u32 = 1;
-
-const CARRY: u32 = 2;
-
-const INVARIANT: u32 = 3;
-
-const SPLIT: u32 = 4;
-
-const FORK: u32 = 5;
-
-const DRAIN: u32 = 6;
-
-const OP: u32 = 7;
-
-const PICK: u32 = 8;
-
-// What stands on a place: a word of the row's own sort, a flag, or what the row's operator gives.
-const OWN: u32 = 0;
-
-const FLAG: u32 = 1;
-
-const GIVEN: u32 = 2;
-
-// A row of the table of kinds: how many inputs, outputs, codes and sorts, then what stands on the places.
+// A row of the table of kinds: how many inputs, outputs, codes and sorts, then what stands on the first two inputs and on the outputs.
 #[derive(Clone, Copy)]
 struct Columns {
     inputs: u32,
     outputs: u32,
     codes: u32,
     sorts: u32,
-    in0: u32,
-    in1: u32,
-    out0: u32,
-    out1: u32,
+    takes: [Place; 2],
+    gives: [Place; 2],
 }
 
-fn said(
+fn row(
     inputs: u32,
     outputs: u32,
     codes: u32,
     sorts: u32,
-    in0: u32,
-    in1: u32,
-    out0: u32,
-    out1: u32,
+    takes: [Place; 2],
+    gives: [Place; 2],
 ) -> Columns
-    ensures { said result.inputs result.outputs result.codes result.sorts result.in0 result.in1 result.out0 result.out1 ≡ said inputs outputs codes sorts in0 in1 out0 out1 }
+    ensures { said result ≡ row inputs outputs codes sorts (place_at takes 0) (place_at takes 1) (place_at gives 0) (place_at gives 1) }
 {
     Columns {
         inputs,
         outputs,
         codes,
         sorts,
-        in0,
-        in1,
-        out0,
-        out1,
+        takes,
+        gives,
     }
 }
 
 // The table of kinds. What follows is read from it. A number over 8 is no kind and has none of each.
 fn columns_of(kind: u32) -> Columns
-    ensures { said result.inputs result.outputs result.codes result.sorts result.in0 result.in1 result.out0 result.out1 ≡ columns_of (kind_of kind) }
+    ensures { said result ≡ columns_of (kind_of kind) }
 {
-    match kind {
-        STREAM => said(3, 2, 30, 1, OWN, OWN, OWN, FLAG),
-        GATE => said(2, 2, 1, 2, OWN, FLAG, OWN, FLAG),
-        CARRY => said(3, 1, 1, 2, FLAG, OWN, OWN, OWN),
-        INVARIANT => said(2, 1, 1, 2, FLAG, OWN, OWN, OWN),
-        SPLIT => said(2, 2, 1, 2, FLAG, OWN, OWN, OWN),
-        FORK => said(1, 2, 1, 2, OWN, OWN, OWN, OWN),
-        DRAIN => said(1, 0, 1, 2, OWN, OWN, OWN, OWN),
-        OP => said(2, 1, 8, 1, OWN, OWN, GIVEN, GIVEN),
-        PICK => said(3, 1, 1, 1, FLAG, OWN, OWN, OWN),
-        _ => said(0, 0, 0, 0, OWN, OWN, OWN, OWN),
+    match Kind::try_from(kind) {
+        Ok(Kind::Stream) => row(3, 2, 30, 1, [Own, Own], [Own, Flag]),
+        Ok(Kind::Gate) => row(2, 2, 1, 2, [Own, Flag], [Own, Flag]),
+        Ok(Kind::Carry) => row(3, 1, 1, 2, [Flag, Own], [Own, Own]),
+        Ok(Kind::Invariant) => row(2, 1, 1, 2, [Flag, Own], [Own, Own]),
+        Ok(Kind::Split) => row(2, 2, 1, 2, [Flag, Own], [Own, Own]),
+        Ok(Kind::Fork) => row(1, 2, 1, 2, [Own, Own], [Own, Own]),
+        Ok(Kind::Drain) => row(1, 0, 1, 2, [Own, Own], [Own, Own]),
+        Ok(Kind::Op) => row(2, 1, 8, 1, [Own, Own], [Given, Given]),
+        Ok(Kind::Pick) => row(3, 1, 1, 1, [Flag, Own], [Own, Own]),
+        Err(_) => row(0, 0, 0, 0, [Own, Own], [Own, Own]),
     }
 }
 
@@ -208,7 +169,8 @@ fn start_right(kind: u32, word: u32, inputs: u32) -> bool
     }
 }
 
-fn inputs_after(kind: u32, inputs: u32) -> u32
+// The inputs numbered so far, after one more start.
+pub fn inputs_after(kind: u32, inputs: u32) -> u32
     requires { inputs < 512 }
     ensures { result ≡ inputs + flag (eqb kind 0) }
 {
@@ -224,14 +186,11 @@ fn starts_right(graph: &[u32]) -> bool
 {
     let starts = wide(graph[2]);
     let mut inputs: u32 = 0;
-    let mut k: usize = 0;
-    while k < starts {
-        if start_right(graph[4 + 2 * k], graph[5 + 2 * k], inputs) {
-            inputs = inputs_after(graph[4 + 2 * k], inputs);
-            k += 1;
-        } else {
+    for k in 0..starts {
+        if !start_right(graph[4 + 2 * k], graph[5 + 2 * k], inputs) {
             return false;
         }
+        inputs = inputs_after(graph[4 + 2 * k], inputs);
     }
     true
 }
@@ -261,20 +220,20 @@ fn node_right(graph: &[u32], i: usize, next: u32) -> bool
 {
     let at = row_place(graph, i);
     let kind = graph[at];
-    if graph[at + 1] < codes_of(kind) {} else {
+    if codes_of(kind) <= graph[at + 1] {
         return false;
     }
-    if graph[at + 2] < sorts_of(kind) {} else {
+    if sorts_of(kind) <= graph[at + 2] {
         return false;
     }
     let inputs = inputs_of(kind);
-    if spare(0 < inputs, graph[at + 3]) {} else {
+    if !spare(0 < inputs, graph[at + 3]) {
         return false;
     }
-    if spare(1 < inputs, graph[at + 4]) {} else {
+    if !spare(1 < inputs, graph[at + 4]) {
         return false;
     }
-    if spare(2 < inputs, graph[at + 5]) {} else {
+    if !spare(2 < inputs, graph[at + 5]) {
         return false;
     }
     graph[at + 6] == first_output(kind, next)
@@ -286,15 +245,11 @@ fn nodes_right(graph: &[u32]) -> bool
 {
     let nodes = wide(graph[0]);
     let mut next = graph[2];
-    let mut i: usize = 0;
-    while i < nodes {
-        if node_right(graph, i, next) {
-            let at = row_place(graph, i);
-            next = next + outputs_of(graph[at]);
-            i += 1;
-        } else {
+    for i in 0..nodes {
+        if !node_right(graph, i, next) {
             return false;
         }
+        next += outputs_of(graph[row_place(graph, i)]);
     }
     graph[1] == next
 }
@@ -303,7 +258,7 @@ fn rows_right(graph: &[u32]) -> bool
     requires { Shaped graph.now }
     ensures { result ≡ rows_right graph.now }
 {
-    if starts_right(graph) {} else {
+    if !starts_right(graph) {
         return false;
     }
     nodes_right(graph)
@@ -326,10 +281,10 @@ fn node_below(graph: &[u32], i: usize) -> bool
     let at = row_place(graph, i);
     let wires = graph[1];
     let inputs = inputs_of(graph[at]);
-    if below(0 < inputs, graph[at + 3], wires) {} else {
+    if !below(0 < inputs, graph[at + 3], wires) {
         return false;
     }
-    if below(1 < inputs, graph[at + 4], wires) {} else {
+    if !below(1 < inputs, graph[at + 4], wires) {
         return false;
     }
     below(2 < inputs, graph[at + 5], wires)
@@ -340,11 +295,8 @@ fn nodes_below(graph: &[u32]) -> bool
     ensures { result ≡ every (node_count graph.now) (node_below graph.now) }
 {
     let nodes = wide(graph[0]);
-    let mut i: usize = 0;
-    while i < nodes {
-        if node_below(graph, i) {
-            i += 1;
-        } else {
+    for i in 0..nodes {
+        if !node_below(graph, i) {
             return false;
         }
     }
@@ -356,11 +308,8 @@ fn results_below(graph: &[u32]) -> bool
     ensures { result ≡ every (result_count graph.now) (result_below graph.now) }
 {
     let results = wide(graph[3]);
-    let mut k: usize = 0;
-    while k < results {
-        if result_at(graph, k) < graph[1] {
-            k += 1;
-        } else {
+    for k in 0..results {
+        if graph[1] <= result_at(graph, k) {
             return false;
         }
     }
@@ -371,7 +320,7 @@ fn wires_below(graph: &[u32]) -> bool
     requires { Shaped graph.now }
     ensures { result ≡ wires_below graph.now }
 {
-    if nodes_below(graph) {} else {
+    if !nodes_below(graph) {
         return false;
     }
     results_below(graph)
@@ -413,10 +362,8 @@ fn count_nodes(graph: &[u32], seen: &mut [u8; 8192])
     ensures { seen.new ≡ counted seen.old (joined (λ i. node_reads (node_at graph.now i)) (node_count graph.now)) }
 {
     let nodes = wide(graph[0]);
-    let mut i: usize = 0;
-    while i < nodes {
+    for i in 0..nodes {
         count_node(graph, i, seen);
-        i += 1;
     }
 }
 
@@ -425,10 +372,8 @@ pub fn count_results(graph: &[u32], seen: &mut [u8; 8192])
     ensures { seen.new ≡ counted seen.old (results graph.now (result_count graph.now)) }
 {
     let results = wide(graph[3]);
-    let mut k: usize = 0;
-    while k < results {
+    for k in 0..results {
         count(seen, true, result_at(graph, k));
-        k += 1;
     }
 }
 
@@ -440,11 +385,8 @@ fn read_once(graph: &[u32]) -> bool
     count_nodes(graph, &mut seen);
     count_results(graph, &mut seen);
     let wires = wide(graph[1]);
-    let mut w: usize = 0;
-    while w < wires {
-        if seen[w] == 1 {
-            w += 1;
-        } else {
+    for w in 0..wires {
+        if seen[w] != 1 {
             return false;
         }
     }
@@ -461,38 +403,31 @@ fn operator_sort(code: u32) -> u32
     }
 }
 
-fn place_sort(place: u32, code: u32, sort: u32) -> u32
-    ensures { result ≡ place_sort (place_of place) code sort }
+fn place_sort(place: Place, code: u32, sort: u32) -> u32
+    ensures { result ≡ place_sort (named place) code sort }
 {
     match place {
-        OWN => sort,
-        FLAG => 1,
-        _ => operator_sort(code),
+        Own => sort,
+        Flag => 1,
+        Given => operator_sort(code),
     }
 }
 
-pub fn in0_sort(kind: u32, sort: u32) -> u32
-    ensures { result ≡ input_sort_of (kind_of kind) sort in0 }
+// The sort of an input. A third input has the row's sort. No input has its operator's sort, so the code is left out.
+pub fn input_sort(kind: u32, sort: u32, place: usize) -> u32
+    ensures { (k : Input) → input_place k ≡ place → result ≡ input_sort_of (kind_of kind) sort k }
 {
-    place_sort(columns_of(kind).in0, 0, sort)
+    match place {
+        0..=1 => place_sort(columns_of(kind).takes[place], 0, sort),
+        _ => sort,
+    }
 }
 
-pub fn in1_sort(kind: u32, sort: u32) -> u32
-    ensures { result ≡ input_sort_of (kind_of kind) sort in1 }
+pub fn output_sort(kind: u32, code: u32, sort: u32, place: usize) -> u32
+    requires { place < 2 }
+    ensures { (k : Output) → output_place k ≡ place → result ≡ output_sort_of (kind_of kind) code sort k }
 {
-    place_sort(columns_of(kind).in1, 0, sort)
-}
-
-pub fn out0_sort(kind: u32, code: u32, sort: u32) -> u32
-    ensures { result ≡ output_sort_of (kind_of kind) code sort out0 }
-{
-    place_sort(columns_of(kind).out0, code, sort)
-}
-
-pub fn out1_sort(kind: u32, code: u32, sort: u32) -> u32
-    ensures { result ≡ output_sort_of (kind_of kind) code sort out1 }
-{
-    place_sort(columns_of(kind).out1, code, sort)
+    place_sort(columns_of(kind).gives[place], code, sort)
 }
 
 // Words and flags are sorts 0 and 1, so a byte holds a sort.
@@ -515,8 +450,13 @@ fn mark_node(graph: &[u32], i: usize, next: u32, sorts: &mut [u8; 8192])
     let code = graph[at + 1];
     let sort = graph[at + 2];
     let outputs = outputs_of(kind);
-    mark(sorts, 0 < outputs, next, out0_sort(kind, code, sort));
-    mark(sorts, 1 < outputs, next + 1, out1_sort(kind, code, sort));
+    mark(sorts, 0 < outputs, next, output_sort(kind, code, sort, 0));
+    mark(
+        sorts,
+        1 < outputs,
+        next + 1,
+        output_sort(kind, code, sort, 1),
+    );
 }
 
 fn mark_nodes(graph: &[u32], sorts: &mut [u8; 8192])
@@ -525,12 +465,9 @@ fn mark_nodes(graph: &[u32], sorts: &mut [u8; 8192])
 {
     let nodes = wide(graph[0]);
     let mut next = graph[2];
-    let mut i: usize = 0;
-    while i < nodes {
+    for i in 0..nodes {
         mark_node(graph, i, next, sorts);
-        let at = row_place(graph, i);
-        next = next + outputs_of(graph[at]);
-        i += 1;
+        next += outputs_of(graph[row_place(graph, i)]);
     }
 }
 
@@ -550,7 +487,7 @@ fn sorted(present: bool, sorts: &[u8; 8192], wire: u32, sort: u32) -> bool
 {
     if present {
         let w = wide(wire);
-        return word_of(sorts[w]) == sort;
+        return u32::from(sorts[w]) == sort;
     }
     true
 }
@@ -563,10 +500,10 @@ fn node_sorted(graph: &[u32], i: usize, sorts: &[u8; 8192]) -> bool
     let kind = graph[at];
     let sort = graph[at + 2];
     let inputs = inputs_of(kind);
-    if sorted(0 < inputs, sorts, graph[at + 3], in0_sort(kind, sort)) {} else {
+    if !sorted(0 < inputs, sorts, graph[at + 3], input_sort(kind, sort, 0)) {
         return false;
     }
-    if sorted(1 < inputs, sorts, graph[at + 4], in1_sort(kind, sort)) {} else {
+    if !sorted(1 < inputs, sorts, graph[at + 4], input_sort(kind, sort, 1)) {
         return false;
     }
     sorted(2 < inputs, sorts, graph[at + 5], sort)
@@ -577,11 +514,8 @@ fn nodes_sorted(graph: &[u32], sorts: &[u8; 8192]) -> bool
     ensures { result ≡ every (node_count graph.now) (node_sorted graph.now) }
 {
     let nodes = wide(graph[0]);
-    let mut i: usize = 0;
-    while i < nodes {
-        if node_sorted(graph, i, sorts) {
-            i += 1;
-        } else {
+    for i in 0..nodes {
+        if !node_sorted(graph, i, sorts) {
             return false;
         }
     }
@@ -593,11 +527,8 @@ fn results_sorted(graph: &[u32], sorts: &[u8; 8192]) -> bool
     ensures { result ≡ every (result_count graph.now) (result_sorted graph.now) }
 {
     let results = wide(graph[3]);
-    let mut k: usize = 0;
-    while k < results {
-        if sorted(true, sorts, result_at(graph, k), 0) {
-            k += 1;
-        } else {
+    for k in 0..results {
+        if !sorted(true, sorts, result_at(graph, k), 0) {
             return false;
         }
     }
@@ -610,30 +541,30 @@ fn sorts_agree(graph: &[u32]) -> bool
 {
     let mut sorts = [0u8; 8192];
     mark_nodes(graph, &mut sorts);
-    if nodes_sorted(graph, &sorts) {} else {
+    if !nodes_sorted(graph, &sorts) {
         return false;
     }
     results_sorted(graph, &sorts)
 }
 
-// 0, or the first refusal of 11 to 15, each over the whole graph before the next.
-pub fn check_graph(graph: &[u32]) -> u32
-    ensures answer { result ≡ graph_refusal graph.now }
+// The first refusal of 11 to 15, each over the whole graph before the next.
+pub fn check_graph(graph: &[u32]) -> Result<(), Refusal>
+    ensures answer { answer_number result ≡ graph_refusal graph.now }
 {
-    if has_shape(graph) {} else {
-        return SHAPE;
+    if !has_shape(graph) {
+        return Err(Refusal::Shape);
     }
-    if rows_right(graph) {} else {
-        return NODE;
+    if !rows_right(graph) {
+        return Err(Refusal::Node);
     }
-    if wires_below(graph) {} else {
-        return WIRE;
+    if !wires_below(graph) {
+        return Err(Refusal::Wire);
     }
-    if read_once(graph) {} else {
-        return READERS;
+    if !read_once(graph) {
+        return Err(Refusal::Readers);
     }
-    if sorts_agree(graph) {} else {
-        return SORT;
+    if !sorts_agree(graph) {
+        return Err(Refusal::Sort);
     }
-    ACCEPTED
+    Ok(())
 }

@@ -18,8 +18,25 @@ use Rattle.graph.specs.Wiring.{input_below_lem, output_below}
 use Rattle.state.specs.Net.{fire, is_ready, or_else, net_of}
 use Rattle.state.specs.Legal.{state_length, right_length, legal_wire, legal_node, legal}
 use Rattle.firing.specs.Acted.{Placed}
-use Rattle.machine.specs.Entries.{first, state_refusal, fire_refusal, fire_answer, fire_state, FireAnswer, fire_answers}
-use Rattle.machine.specs.declared.Fired.TheVariants.{Refused, NotReady, Done}
+use Rattle.machine.specs.Entries.{first, refusal_is, number_above_0, state_refusal, fire_refusal, fire_answer, fire_state, FireAnswer, fire_answers}
+use Rattle.machine.specs.declared.Fired.TheVariants.{NotReady, Done}
+use Rattle.std.specs.Prelude.{Result, Ok, Err, IsErrAnd}
+use Rattle.refusal.specs.Numbers.{number_of, answer_number}
+use Rattle.refusal.specs.declared.Refusal.{Refusal}
+use Rattle.refusal.specs.declared.Refusal.TheVariants.{Order}
+
+-- ---- answers that are not refused, and the numbers of those that are
+
+pub accepted_zero : {A : Type 0} {r : Result A Refusal} {k : ℕ} → answer_number r ≡ k → (x : A) → r ≡ Ok x → k ≡ 0
+accepted_zero q x w = sym q ∙ ap answer_number w
+
+-- an error that `?` passes on is the one that came
+pub passed_on : {A : Type 0} (r : Result A Refusal) (e : Refusal) → IsErrAnd r (λ x. x ≡ e) → r ≡ Err e
+passed_on (Ok x) e h = absurd h
+passed_on (Err x) e h = ap Err h
+
+pub not_zero : (e : Refusal) → number_of e ≡ 0 → ⊥
+not_zero e q = let h = number_above_0 e in omega arith
 
 -- ---- legal
 
@@ -59,17 +76,19 @@ pub stops : {a : ℕ} (b : ℕ) → (a ≡ 0 → ⊥) → first a b ≡ a
 stops b n = rw (ne_eqb _ 0 n)
 
 module _ (g s : List ℕ) where
-  pub state_graph : {k : ℕ} → k ≡ graph_refusal g → (k ≡ 0 → ⊥) → k ≡ state_refusal g s
+  pub state_graph : {A : Type 0} {r : Result A Refusal} → answer_number r ≡ graph_refusal g → (e : Refusal) → r ≡ Err e → number_of e ≡ state_refusal g s
   unfolding state_refusal
-  state_graph e n = sym (ap (λ (a : ℕ). first a (pick (legal g s) 0 17)) (sym e) ∙ stops _ n)
+  state_graph q e w =
+      let n : number_of e ≡ graph_refusal g = sym (ap answer_number w) ∙ q in
+      n ∙ sym (stops (pick (legal g s) 0 17) (λ z. not_zero e (n ∙ z)))
 
   pub state_right : {k : ℕ} {b : Bool} → k ≡ graph_refusal g → k ≡ 0 → b ≡ legal g s → b ≡ true → 0 ≡ state_refusal g s
   unfolding state_refusal
   state_right e n l t = sym (skips _ (sym e ∙ n) ∙ rw (← l, t))
 
-  pub state_wrong : {k : ℕ} {b : Bool} → k ≡ graph_refusal g → k ≡ 0 → b ≡ legal g s → b ≡ false → 17 ≡ state_refusal g s
+  pub state_wrong : graph_refusal g ≡ 0 → {b : Bool} → b ≡ legal g s → b ≡ false → 17 ≡ state_refusal g s
   unfolding state_refusal
-  state_wrong e n l t = sym (skips _ (sym e ∙ n) ∙ rw (← l, t))
+  state_wrong z l t = sym (skips _ z ∙ rw (← l, t))
 
   picked : (b : Bool) → ◌≡◌ {A = ℕ} (pick b 0 17) 0 → b ≡ true
   picked true e = refl
@@ -88,28 +107,32 @@ placed g i len e l h =
 -- ---- fire
 
 module _ (g s : List ℕ) (i : ℕ) where
-  refused : (k : ℕ) → k ≡ fire_refusal g s i → (k ≡ 0 → ⊥) → FireAnswer g s i (Refused k) s
+  refused : (e : Refusal) → number_of e ≡ fire_refusal g s i → FireAnswer g s i (Err e) s
   unfolding fire_answer fire_state
-  refused k e n = fire_answers g s i (Refused k) s (rw (← e, ne_eqb k 0 n)) (rw (← e, ne_eqb k 0 n))
+  refused e q =
+      let z = ne_eqb (number_of e) 0 (not_zero e) in
+      fire_answers g s i (Err e) s (rw (← q, z, refusal_is e)) (rw (← q, z))
 
-  pub fire_state_lem : {k : ℕ} → k ≡ state_refusal g s → (k ≡ 0 → ⊥) → FireAnswer g s i (Refused k) s
+  pub fire_state_lem : {A : Type 0} {r : Result A Refusal} → answer_number r ≡ state_refusal g s → (e : Refusal) → r ≡ Err e → FireAnswer g s i (Err e) s
   unfolding fire_refusal
-  fire_state_lem {k = k} e n = refused k (sym (ap (λ (a : ℕ). first a (pick (ltb i (node_count g)) 0 18)) (sym e) ∙ stops _ n)) n
+  fire_state_lem q e w =
+      let n : number_of e ≡ state_refusal g s = sym (ap answer_number w) ∙ q in
+      refused e (n ∙ sym (stops (pick (ltb i (node_count g)) 0 18) (λ z. not_zero e (n ∙ z))))
 
-  pub fire_order : {k : ℕ} → k ≡ state_refusal g s → k ≡ 0 → node_count g ≤ i → FireAnswer g s i (Refused 18) s
+  pub fire_order : state_refusal g s ≡ 0 → node_count g ≤ i → FireAnswer g s i (Err Order) s
   unfolding fire_refusal
-  fire_order e z h = refused 18 (sym (skips _ (sym e ∙ z) ∙ rw (le-ltb _ _ h))) (λ q. omega arith)
+  fire_order z h = refused Order (sym (skips _ z ∙ rw (le-ltb _ _ h)))
 
-  goes : {k : ℕ} → k ≡ state_refusal g s → k ≡ 0 → i < node_count g → fire_refusal g s i ≡ 0
+  goes : state_refusal g s ≡ 0 → i < node_count g → fire_refusal g s i ≡ 0
   unfolding fire_refusal
-  goes e z h = skips _ (sym e ∙ z) ∙ rw (lt-ltb _ _ h)
+  goes z h = skips _ z ∙ rw (lt-ltb _ _ h)
 
-  pub fire_done : {k : ℕ} {t : Bool} {s1 : List ℕ} → k ≡ state_refusal g s → k ≡ 0 → i < node_count g
-      → (t ≡ is_ready (fire (net_of g) i s)) × (s1 ≡ or_else (fire (net_of g) i s) s) → t ≡ true → FireAnswer g s i Done s1
+  pub fire_done : {t : Bool} {s1 : List ℕ} → state_refusal g s ≡ 0 → i < node_count g
+      → (t ≡ is_ready (fire (net_of g) i s)) × (s1 ≡ or_else (fire (net_of g) i s) s) → t ≡ true → FireAnswer g s i (Ok Done) s1
   unfolding fire_answer fire_state
-  fire_done {s1 = s1} e z h p t = let q = goes e z h in fire_answers g s i Done s1 (rw (q, ← p.0, t)) (rw q p.1)
+  fire_done {s1 = s1} z h p t = let q = goes z h in fire_answers g s i (Ok Done) s1 (rw (q, ← p.0, t)) (rw q p.1)
 
-  pub fire_waits : {k : ℕ} {t : Bool} {s1 : List ℕ} → k ≡ state_refusal g s → k ≡ 0 → i < node_count g
-      → (t ≡ is_ready (fire (net_of g) i s)) × (s1 ≡ or_else (fire (net_of g) i s) s) → t ≡ false → FireAnswer g s i NotReady s1
+  pub fire_waits : {t : Bool} {s1 : List ℕ} → state_refusal g s ≡ 0 → i < node_count g
+      → (t ≡ is_ready (fire (net_of g) i s)) × (s1 ≡ or_else (fire (net_of g) i s) s) → t ≡ false → FireAnswer g s i (Ok NotReady) s1
   unfolding fire_answer fire_state
-  fire_waits {s1 = s1} e z h p t = let q = goes e z h in fire_answers g s i NotReady s1 (rw (q, ← p.0, t)) (rw q p.1)
+  fire_waits {s1 = s1} z h p t = let q = goes z h in fire_answers g s i (Ok NotReady) s1 (rw (q, ← p.0, t)) (rw q p.1)

@@ -20,7 +20,11 @@ use Rattle.state.specs.Legal.{state_length, right_length}
 use Rattle.state.specs.Load.{input_count, start_word, loaded}
 use Rattle.state.specs.Loaded.{loaded_at, loaded_length, loaded_at_lem}
 use Rattle.machine.specs.Entries.{first, Given, load_refusal, load_state, LoadAnswer}
-use Rattle.machine.proofs.Answers.{skips, stops}
+use Rattle.std.specs.Prelude.{Result, Err}
+use Rattle.refusal.specs.Numbers.{number_of, answer_number}
+use Rattle.refusal.specs.declared.Refusal.{Refusal}
+use Rattle.refusal.specs.declared.Refusal.TheVariants.{State, Inputs}
+use Rattle.machine.proofs.Answers.{skips, stops, not_zero}
 
 -- ---- counting inputs
 
@@ -98,28 +102,30 @@ filled_whole g inputs s a l h =
 -- ---- the answers
 
 module _ (g inputs s : List ℕ) where
-  refused : (k : ℕ) → k ≡ load_refusal g inputs s → (k ≡ 0 → ⊥) → LoadAnswer g inputs s k s
+  refused : (e : Refusal) → number_of e ≡ load_refusal g inputs s → LoadAnswer g inputs s (number_of e) s
   unfolding load_state
-  refused k e n = record { number = e; state = rw (← e, ne_eqb k 0 n) }
+  refused e q = record { number = q; state = rw (← q, ne_eqb (number_of e) 0 (not_zero e)) }
 
   abbrev rest : ℕ
   rest = first (pick (right_length g s) 0 17) (pick (eqb (length inputs) (input_count g)) 0 16)
 
-  pub load_graph : {k : ℕ} → k ≡ graph_refusal g → (k ≡ 0 → ⊥) → LoadAnswer g inputs s k s
+  pub load_graph : {A : Type 0} {r : Result A Refusal} → answer_number r ≡ graph_refusal g → (e : Refusal) → r ≡ Err e → LoadAnswer g inputs s (number_of e) s
   unfolding load_refusal
-  load_graph {k = k} e n = refused k (sym (ap (λ (a : ℕ). first a rest) (sym e) ∙ stops rest n)) n
+  load_graph q e w =
+      let n : number_of e ≡ graph_refusal g = sym (ap answer_number w) ∙ q in
+      refused e (n ∙ sym (stops rest (λ z. not_zero e (n ∙ z))))
 
-  module _ {k : ℕ} (e : k ≡ graph_refusal g) (z : k ≡ 0) where
+  module _ (z : graph_refusal g ≡ 0) where
     pub load_state_lem : (length s ≡ state_length g → ⊥) → LoadAnswer g inputs s 17 s
     unfolding load_refusal
-    load_state_lem n = refused 17 (sym (skips rest (sym e ∙ z) ∙ rw (ne_eqb _ _ n))) (λ q. omega arith)
+    load_state_lem n = refused State (sym (skips rest z ∙ rw (ne_eqb _ _ n)))
 
     pub load_inputs : length s ≡ state_length g → (length inputs ≡ input_count g → ⊥) → LoadAnswer g inputs s 16 s
     unfolding load_refusal
-    load_inputs l n = refused 16 (sym (skips rest (sym e ∙ z) ∙ rw (eq-eqb _ _ l, ne_eqb _ _ n))) (λ q. omega arith)
+    load_inputs l n = refused Inputs (sym (skips rest z ∙ rw (eq-eqb _ _ l, ne_eqb _ _ n)))
 
     pub load_done : length s ≡ state_length g → length inputs ≡ input_count g → {s1 : List ℕ} → s1 ≡ loaded g inputs → LoadAnswer g inputs s 0 s1
     unfolding load_refusal load_state
     load_done l n h =
-        let q : first (graph_refusal g) rest ≡ 0 = skips rest (sym e ∙ z) ∙ rw (eq-eqb _ _ l, eq-eqb _ _ n) in
+        let q : first (graph_refusal g) rest ≡ 0 = skips rest z ∙ rw (eq-eqb _ _ l, eq-eqb _ _ n) in
         record { number = sym q; state = rw q h }

@@ -57,4 +57,4 @@ node_legal_is g s i h row R W eW {own = own} O B =
     B ∙ ap₂ (λ (k t : ℕ). legal_kind (kind_of k) t own) R.kind R.sort
     ∙ node_legal_of (kind_of (get_or g (row_place g i) 0)) (get_or g (row_place g i + 1) 0) (get_or g (row_place g i + 2) 0) (get_or g (row_place g i + 3) 0)
     (get_or g (row_place g i + 4) 0) (get_or g (row_place g i + 5) 0) (get_or g (row_place g i + 6) 0) own
-    ∙ ap₂ (λ (o : Option Node) (r : Record). legal_for o r) (sym (node_read g i h row R)) (O ∙ ap (λ (n : ℕ). record_at n s i) eW)
+    ∙ ap₂ (λ (o : Option Node) (r : Record). legal_for o r) (sym (node_read g i h refl)) (O ∙ ap (λ (n : ℕ). record_at n s i) eW)

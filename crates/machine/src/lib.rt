@@ -1,8 +1,8 @@
 // Loading a graph and firing one node, on lent words that anybody may have typed, cut short or altered.
 #![tactic(auto)]
 
-ghost use Rattle.std.specs.Prelude.{◌≡◌, true, false, ℕ, ◌+◌, ◌*◌, ◌<◌, ◌≤◌, eqb, ltb, length, get_or};
-ghost use Rattle.word.specs.Words.{pick, flag};
+ghost use Rattle.std.specs.Prelude.{◌≡◌, ◌<◌, length};
+ghost use Rattle.refusal.specs.Numbers.{answer_number};
 ghost use Rattle.step.specs.Kinds.{kind_of};
 ghost use Rattle.step.specs.Kept.{fits, empty, legal_stream, legal_invariant, legal_phase};
 ghost use Rattle.graph.specs.Below.{every};
@@ -13,16 +13,12 @@ ghost use Rattle.state.specs.Load.{input_count, start_word, loaded};
 ghost use Rattle.state.specs.Loaded.{loaded_at};
 ghost use Rattle.machine.specs.Entries.{Fit, Given, state_refusal, LoadAnswer, FireAnswer};
 
-const INPUTS: u32 = 16;
+use refusal::Refusal;
+use step::Kind;
 
-const STATE: u32 = 17;
-
-const ORDER: u32 = 18;
-
-// What one firing answers.
-#[derive(Clone, Copy)]
+// What one firing answers, where the call is not refused.
+#[derive(Clone, Copy, Debug, PartialEq, Eq)]
 pub enum Fired {
-    Refused(u32),
     NotReady,
     Done,
 }
@@ -43,7 +39,7 @@ fn token_legal(sort: u8, full: u32, word: u32) -> bool
 {
     match full {
         0 => word == 0,
-        1 => word_fits(graph::word_of(sort), word),
+        1 => word_fits(u32::from(sort), word),
         _ => false,
     }
 }
@@ -51,20 +47,13 @@ fn token_legal(sort: u8, full: u32, word: u32) -> bool
 fn all_zero(a: u32, b: u32, c: u32) -> bool
     ensures answer { result ≡ empty a b c }
 {
-    if a != 0 {
-        return false;
-    }
-    if b != 0 {
-        return false;
-    }
-    c == 0
+    a == 0 && b == 0 && c == 0
 }
 
 fn stream_legal(r: step::Record) -> bool
     ensures answer { result ≡ legal_stream r.phase r.r0 r.r1 r.r2 }
 {
-    let phase = r.phase;
-    match phase {
+    match r.phase {
         0 => all_zero(r.r0, r.r1, r.r2),
         1 => r.r1 != 0,
         _ => false,
@@ -74,15 +63,9 @@ fn stream_legal(r: step::Record) -> bool
 fn invariant_legal(sort: u32, r: step::Record) -> bool
     ensures answer { result ≡ legal_invariant sort r.phase r.r0 r.r1 r.r2 }
 {
-    let phase = r.phase;
-    match phase {
+    match r.phase {
         0 => all_zero(r.r0, r.r1, r.r2),
-        1 => {
-            if word_fits(sort, r.r0) {
-                return all_zero(0, r.r1, r.r2);
-            }
-            false
-        }
+        1 => word_fits(sort, r.r0) && all_zero(0, r.r1, r.r2),
         _ => false,
     }
 }
@@ -90,26 +73,23 @@ fn invariant_legal(sort: u32, r: step::Record) -> bool
 fn phase_legal(phases: u32, r: step::Record) -> bool
     ensures answer { result ≡ legal_phase phases r }
 {
-    if r.phase < phases {
-        return all_zero(r.r0, r.r1, r.r2);
-    }
-    false
+    r.phase < phases && all_zero(r.r0, r.r1, r.r2)
 }
 
 fn record_legal(kind: u32, sort: u32, r: step::Record) -> bool
     ensures answer { result ≡ legal_kind (kind_of kind) sort r }
 {
-    match kind {
-        0 => stream_legal(r),
-        1 => phase_legal(2, r),
-        2 => phase_legal(3, r),
-        3 => invariant_legal(sort, r),
-        4 => phase_legal(1, r),
-        5 => phase_legal(1, r),
-        6 => phase_legal(1, r),
-        7 => phase_legal(1, r),
-        8 => phase_legal(1, r),
-        _ => true,
+    match Kind::try_from(kind) {
+        Ok(Kind::Stream) => stream_legal(r),
+        Ok(Kind::Gate) => phase_legal(2, r),
+        Ok(Kind::Carry) => phase_legal(3, r),
+        Ok(Kind::Invariant) => invariant_legal(sort, r),
+        Ok(Kind::Split) => phase_legal(1, r),
+        Ok(Kind::Fork) => phase_legal(1, r),
+        Ok(Kind::Drain) => phase_legal(1, r),
+        Ok(Kind::Op) => phase_legal(1, r),
+        Ok(Kind::Pick) => phase_legal(1, r),
+        Err(_) => true,
     }
 }
 
@@ -119,11 +99,8 @@ fn wires_legal(graph: &[u32], state: &[u32]) -> bool
 {
     let sorts = graph::wire_sorts(graph);
     let wires = graph::wide(graph[1]);
-    let mut w: usize = 0;
-    while w < wires {
-        if token_legal(sorts[w], state[2 * w], state[2 * w + 1]) {
-            w += 1;
-        } else {
+    for w in 0..wires {
+        if !token_legal(sorts[w], state[2 * w], state[2 * w + 1]) {
             return false;
         }
     }
@@ -145,11 +122,8 @@ fn nodes_legal(graph: &[u32], state: &[u32]) -> bool
     ensures answer { result ≡ every (node_count graph.now) (legal_node graph.now state.now) }
 {
     let nodes = graph::wide(graph[0]);
-    let mut i: usize = 0;
-    while i < nodes {
-        if node_legal(graph, state, i) {
-            i += 1;
-        } else {
+    for i in 0..nodes {
+        if !node_legal(graph, state, i) {
             return false;
         }
     }
@@ -170,26 +144,19 @@ fn is_legal(graph: &[u32], state: &[u32]) -> bool
     requires { graph_refusal graph.now ≡ 0 }
     ensures answer { result ≡ legal graph.now state.now }
 {
-    if state.len() == state_length(graph) {
-        if wires_legal(graph, state) {
-            return nodes_legal(graph, state);
-        }
-    }
-    false
+    state.len() == state_length(graph) && wires_legal(graph, state) && nodes_legal(graph, state)
 }
 
 // 11 to 15, then 17: what every entry that takes a state asks first.
-pub fn state_refusal(graph: &[u32], state: &[u32]) -> u32
-    ensures answer { result ≡ state_refusal graph.now state.now }
+pub fn check_state(graph: &[u32], state: &[u32]) -> Result<(), Refusal>
+    ensures answer { answer_number result ≡ state_refusal graph.now state.now }
 {
-    let refusal = graph::check_graph(graph);
-    if refusal != 0 {
-        return refusal;
-    }
+    graph::check_graph(graph)?;
     if is_legal(graph, state) {
-        return 0;
+        Ok(())
+    } else {
+        Err(Refusal::State)
     }
-    STATE
 }
 
 // How many inputs the graph has.
@@ -198,23 +165,11 @@ fn input_count(graph: &[u32]) -> usize
     ensures answer { result ≡ input_count graph.now }
 {
     let starts = graph::wide(graph[2]);
-    let mut inputs: usize = 0;
-    let mut k: usize = 0;
-    while k < starts {
-        inputs = one_more(graph[4 + 2 * k], inputs);
-        k += 1;
+    let mut inputs: u32 = 0;
+    for k in 0..starts {
+        inputs = graph::inputs_after(graph[4 + 2 * k], inputs);
     }
-    inputs
-}
-
-fn one_more(kind: u32, inputs: usize) -> usize
-    requires { inputs < 512 }
-    ensures answer { result ≡ inputs + flag (eqb kind 0) }
-{
-    match kind {
-        0 => inputs + 1,
-        _ => inputs,
-    }
+    graph::wide(inputs)
 }
 
 // The word of start k: the input of its number, or its constant.
@@ -249,45 +204,37 @@ fn fill(graph: &[u32], inputs: &[u32], state: &mut [u32])
     requires { Given graph.now (length inputs.now) × (length state.old ≡ state_length graph.now) }
     ensures state { state.new ≡ loaded graph.now inputs.now }
 {
-    let mut j: usize = 0;
-    while j < state.len() {
+    for j in 0..state.len() {
         state[j] = loaded_word(graph, inputs, j);
-        j += 1;
     }
 }
 
 // Loads a graph: the starts' words on their wires, 0 everywhere else. What the state held before does not matter.
-pub fn load(graph: &[u32], inputs: &[u32], state: &mut [u32]) -> u32
-    ensures answer { LoadAnswer graph.now inputs.now state.old result state.new }
+pub fn load(graph: &[u32], inputs: &[u32], state: &mut [u32]) -> Result<(), Refusal>
+    ensures answer { LoadAnswer graph.now inputs.now state.old (answer_number result) state.new }
 {
-    let refusal = graph::check_graph(graph);
-    if refusal != 0 {
-        return refusal;
-    }
+    graph::check_graph(graph)?;
     if state.len() != state_length(graph) {
-        return STATE;
+        return Err(Refusal::State);
     }
     if inputs.len() != input_count(graph) {
-        return INPUTS;
+        return Err(Refusal::Inputs);
     }
     fill(graph, inputs, state);
-    0
+    Ok(())
 }
 
 // One firing of one node. A node that is not ready changes nothing.
-pub fn fire(graph: &[u32], state: &mut [u32], node: usize) -> Fired
+pub fn fire(graph: &[u32], state: &mut [u32], node: usize) -> Result<Fired, Refusal>
     ensures answer { FireAnswer graph.now state.old node result state.new }
 {
-    let refusal = state_refusal(graph, state);
-    if refusal != 0 {
-        return Fired::Refused(refusal);
-    }
+    check_state(graph, state)?;
     let nodes = graph::wide(graph[0]);
     if nodes <= node {
-        return Fired::Refused(ORDER);
+        return Err(Refusal::Order);
     }
     if firing::fire_node(graph, state, node) {
-        return Fired::Done;
+        return Ok(Fired::Done);
     }
-    Fired::NotReady
+    Ok(Fired::NotReady)
 }

@@ -7,13 +7,21 @@ use mathlib.Core.List.{List}
 use mathlib.Core.Option.{Option, none, some}
 use native.Mathlib.Omega.{arith}
 use borrow.Author.Tests.{eq-eqb, ne_eqb, lt-ltb, le-ltb, ltb-true}
-use lib.Dec.{eqb, ltb}
+use lib.Dec.{ltb}
 use lib.ListN.{get_or, length, replicate, length-replicate, get_or-replicate}
 use Rattle.word.specs.Words.{pick}
-use Rattle.step.specs.Kinds.{kind_of}
-use Rattle.step.specs.Shown.{token_of}
+use Rattle.step.specs.Kinds.{Kind, kind_of, STREAM}
+use Rattle.step.specs.Named.{named}
+use Rattle.step.specs.declared.Kind.{Kind as Code}
+use Rattle.step.specs.declared.Kind.TheVariants.{Stream, Gate, Carry, Invariant, Split, Fork, Drain, Op, Pick}
+use Rattle.step.specs.contracts.Kind.{the_type}
+use denote.Enum.Declared.{tag_of}
+use Rattle.step.specs.Shown.{token_of, given}
 use Rattle.step.specs.declared.Seen.{Seen}
-use Rattle.step.specs.declared.Token.{Token}
+use Rattle.std.specs.Prelude.{Option as Maybe, None, Some, is_some, Result, Ok, Err}
+use Rattle.refusal.specs.Numbers.{number_of, answer_number}
+use Rattle.refusal.specs.declared.Refusal.{Refusal}
+use Rattle.refusal.specs.declared.Refusal.TheVariants.{Order}
 use Rattle.step.specs.declared.Record.{Record}
 use Rattle.graph.specs.Below.{every, every_each, times}
 use Rattle.graph.specs.Counted.{counted, up_to_two, counted_at}
@@ -21,15 +29,18 @@ use Rattle.graph.specs.Graph.{node_of, node_at, node_count, wire_count, result_c
 use Rattle.state.specs.State.{record_at, token_on, is_empty}
 use Rattle.state.specs.Net.{net_of}
 use Rattle.state.specs.Run.{At, run, follow, finish, SPENT, COMPLETE, ZERO-STEP, STRANDED, Outcome, outcome, any_ready, complete, results_full, others_empty, phases_zero, is_full, is_result, is_stream, holds_token, holds_zero, zero_step_at, first_from, zero_step}
-use Rattle.machine.specs.Entries.{first, state_refusal}
-use Rattle.machine.proofs.Answers.{skips, stops}
+use Rattle.machine.specs.Entries.{first, refusal_is, state_refusal}
+use Rattle.machine.proofs.Answers.{skips, stops, not_zero}
 use Rattle.firing.specs.Acted.{Reads, Sees}
 use Rattle.firing.specs.declared.Row.{Row}
-use Rattle.firing.proofs.Fired.{node_read, wire_0, wire_1, wire_2}
+use Rattle.firing.proofs.Fired.{node_read}
 use Rattle.run.specs.Entry.{at, order_below, run_refusal, run_at, run_state, run_firings, ran_by, run_answer, Below, idle, other_empty, at_rest}
 use Rattle.run.specs.Numbers.{RunAnswer, run_answers}
 use Rattle.run.specs.declared.Ran.{Ran}
-use Rattle.run.specs.declared.Ran.TheVariants.{Refused, Spent, Complete, ZeroStep, Stranded}
+use Rattle.run.specs.declared.Ran.TheVariants.{Spent, Complete, ZeroStep, Stranded}
+
+pub true_not_false : ◌≡◌ {A = Bool} true false → ⊥
+true_not_false e = let z : ◌≡◌ {A = ℕ} 0 1 = cc in omega arith
 
 pub not_is : {r t : Bool} → r ≡ t → r ≡ true → not t ≡ false
 not_is e h = ap not (sym e ∙ h)
@@ -90,51 +101,32 @@ module _ (g s : List ℕ) (i : ℕ) {W : ℕ} (e : W ≡ wire_count g) where
 
 -- ---- a stalled STREAM
 
-holds_token_lem : (t : Token) → holds_token (token_of t) ≡ t.full
-holds_token_lem t = go t.full t.word
-  where
-    go : (b : Bool) (x : ℕ) → holds_token (pick b (some x) none) ≡ b
-    go true x = refl
-    go false x = refl
+pub holds_token_lem : (t : Maybe ℕ) → holds_token (token_of t) ≡ is_some t
+holds_token_lem None = refl
+holds_token_lem (Some x) = refl
 
-holds_zero_lem : (t : Token) → holds_zero (token_of t) ≡ t.full && eqb t.word 0
-holds_zero_lem t = go t.full t.word
-  where
-    go : (b : Bool) (x : ℕ) → holds_zero (pick b (some x) none) ≡ b && eqb x 0
-    go true x = refl
-    go false x = refl
+pub zero_held : (t : Maybe ℕ) → t ≡ Some 0 → holds_zero (token_of t) ≡ true
+zero_held t e = rw e
 
-pub stalled_is : (v : Seen) → holds_token (token_of v.in0) && (holds_zero (token_of v.in1) && holds_token (token_of v.in2))
-    ≡ v.in0.full && ((v.in1.full && eqb v.in1.word 0) && v.in2.full)
-stalled_is v = simp (holds_token_lem v.in0, holds_zero_lem v.in1, holds_token_lem v.in2)
+pub no_zero_held : (t : Maybe ℕ) → (t ≡ Some 0 → ⊥) → holds_zero (token_of t) ≡ false
+no_zero_held None h = refl
+no_zero_held (Some zero) h = absurd (h refl)
+no_zero_held (Some (suc x)) h = ne_eqb (suc x) 0 (λ q. omega arith)
 
-pub stalled_yes : (v : Seen) → v.in0.full ≡ true → v.in1.full ≡ true → v.in1.word ≡ 0
-    → v.in2.full ≡ (holds_token (token_of v.in0) && (holds_zero (token_of v.in1) && holds_token (token_of v.in2)))
-stalled_yes v a b c = sym (stalled_is v ∙ joined (eq-eqb v.in1.word 0 c))
-  where
-    joined : eqb v.in1.word 0 ≡ true → (v.in0.full && ((v.in1.full && eqb v.in1.word 0) && v.in2.full)) ≡ v.in2.full
-    joined q = rw (a, b, q)
+-- only the first kind is a STREAM, and what is no kind is none
+pub not_stream : {o : Option Kind} (κ : Code) → (tag_of the_type κ ≡ 0 → ⊥) → some (named κ) ≡ o → (c s w0 w1 w2 f : ℕ) → is_stream (node_of o c s w0 w1 w2 f) ≡ false
+not_stream Stream h e c s w0 w1 w2 f = absurd (h refl)
+not_stream Gate h e c s w0 w1 w2 f = rw (← e)
+not_stream Carry h e c s w0 w1 w2 f = rw (← e)
+not_stream Invariant h e c s w0 w1 w2 f = rw (← e)
+not_stream Split h e c s w0 w1 w2 f = rw (← e)
+not_stream Fork h e c s w0 w1 w2 f = rw (← e)
+not_stream Drain h e c s w0 w1 w2 f = rw (← e)
+not_stream Op h e c s w0 w1 w2 f = rw (← e)
+not_stream Pick h e c s w0 w1 w2 f = rw (← e)
 
-pub stalled_word : (v : Seen) → v.in0.full ≡ true → v.in1.full ≡ true → (v.in1.word ≡ 0 → ⊥)
-    → false ≡ (holds_token (token_of v.in0) && (holds_zero (token_of v.in1) && holds_token (token_of v.in2)))
-stalled_word v a b c = sym (stalled_is v ∙ joined (ne_eqb v.in1.word 0 c))
-  where
-    joined : eqb v.in1.word 0 ≡ false → (v.in0.full && ((v.in1.full && eqb v.in1.word 0) && v.in2.full)) ≡ false
-    joined q = rw (a, b, q)
-
--- only kind 0 is a STREAM
-not_stream : (k : ℕ) → (k ≡ 0 → ⊥) → (c s w0 w1 w2 f : ℕ) → is_stream (node_of (kind_of k) c s w0 w1 w2 f) ≡ false
-unfolding kind_of
-not_stream zero h c s w0 w1 w2 f = absurd (h refl)
-not_stream (suc zero) h c s w0 w1 w2 f = refl
-not_stream (suc (suc zero)) h c s w0 w1 w2 f = refl
-not_stream (suc (suc (suc zero))) h c s w0 w1 w2 f = refl
-not_stream (suc (suc (suc (suc zero)))) h c s w0 w1 w2 f = refl
-not_stream (suc (suc (suc (suc (suc zero))))) h c s w0 w1 w2 f = refl
-not_stream (suc (suc (suc (suc (suc (suc zero)))))) h c s w0 w1 w2 f = refl
-not_stream (suc (suc (suc (suc (suc (suc (suc zero))))))) h c s w0 w1 w2 f = refl
-not_stream (suc (suc (suc (suc (suc (suc (suc (suc zero)))))))) h c s w0 w1 w2 f = refl
-not_stream (suc (suc (suc (suc (suc (suc (suc (suc (suc k))))))))) h c s w0 w1 w2 f = refl
+pub no_kind_no_stream : {o : Option Kind} → none ≡ o → (c s w0 w1 w2 f : ℕ) → is_stream (node_of o c s w0 w1 w2 f) ≡ false
+no_kind_no_stream e c s w0 w1 w2 f = rw (← e)
 
 module _ (g s : List ℕ) (i : ℕ) (h : i < node_count g) (r : Row) (R : Reads g i r) where
   abbrev p : ℕ
@@ -142,32 +134,29 @@ module _ (g s : List ℕ) (i : ℕ) (h : i < node_count g) (r : Row) (R : Reads 
 
   stream_read : is_stream (node_at g i) ≡ is_stream (node_of (kind_of r.kind) (get_or g (p + 1) 0) (get_or g (p + 2) 0) (get_or g (p + 3) 0) (get_or g (p + 4) 0) (get_or g (p + 5) 0) (get_or g (p + 6) 0))
   stream_read =
-      ap is_stream (node_read g i h r R)
+      ap is_stream (node_read g i h refl)
       ∙ ap (λ (k : ℕ). is_stream (node_of (kind_of k) (get_or g (p + 1) 0) (get_or g (p + 2) 0) (get_or g (p + 3) 0) (get_or g (p + 4) 0) (get_or g (p + 5) 0) (get_or g (p + 6) 0))) (sym R.kind)
 
-  pub other_kind : (r.kind ≡ 0 → ⊥) → false ≡ zero_step_at g s i
+  pub other_kind : is_stream (node_of (kind_of r.kind) (get_or g (p + 1) 0) (get_or g (p + 2) 0) (get_or g (p + 3) 0) (get_or g (p + 4) 0) (get_or g (p + 5) 0) (get_or g (p + 6) 0)) ≡ false → false ≡ zero_step_at g s i
   unfolding zero_step_at
-  other_kind n = sym (rw (stream_read ∙ not_stream r.kind n (get_or g (p + 1) 0) (get_or g (p + 2) 0) (get_or g (p + 3) 0) (get_or g (p + 4) 0) (get_or g (p + 5) 0) (get_or g (p + 6) 0)))
+  other_kind n = sym (rw (stream_read ∙ n))
 
-  is_stream_lem : r.kind ≡ 0 → is_stream (node_at g i) ≡ true
-  unfolding kind_of
-  is_stream_lem e =
-      stream_read
-      ∙ ap (λ (k : ℕ). is_stream (node_of (kind_of k) (get_or g (p + 1) 0) (get_or g (p + 2) 0) (get_or g (p + 3) 0) (get_or g (p + 4) 0) (get_or g (p + 5) 0) (get_or g (p + 6) 0))) e
+  is_stream_lem : kind_of r.kind ≡ some STREAM → is_stream (node_at g i) ≡ true
+  is_stream_lem e = stream_read ∙ rw e
 
   module _ (W : ℕ) (eW : W ≡ wire_count g) {own : Record} (O : own ≡ record_at W s i) where
     phase_is : own.phase ≡ (record_at (wire_count g) s i).phase
     phase_is = ap (λ (q : Record). q.phase) (O ∙ ap (λ (n : ℕ). record_at n s i) eW)
 
-    pub other_phase : r.kind ≡ 0 → (own.phase ≡ 0 → ⊥) → false ≡ zero_step_at g s i
+    pub other_phase : kind_of r.kind ≡ some STREAM → (own.phase ≡ 0 → ⊥) → false ≡ zero_step_at g s i
     unfolding zero_step_at
     other_phase e n = sym (rw (is_stream_lem e, ne_eqb (record_at (wire_count g) s i).phase 0 (λ z. n (phase_is ∙ z))))
 
-    pub stalled_stream : r.kind ≡ 0 → own.phase ≡ 0 → {v : Seen} → Sees s r v → {b : Bool}
-        → b ≡ holds_token (token_of v.in0) && (holds_zero (token_of v.in1) && holds_token (token_of v.in2)) → b ≡ zero_step_at g s i
+    pub stalled_stream : kind_of r.kind ≡ some STREAM → own.phase ≡ 0 → {v : Seen} → Sees s r v → {b : Bool}
+        → b ≡ holds_token (given v.inputs 0) && (holds_zero (given v.inputs 1) && holds_token (given v.inputs 2)) → b ≡ zero_step_at g s i
     unfolding zero_step_at
     stalled_stream e z {v = v} S B =
-        together (S.in0 ∙ ap (token_on s) (wire_0 g i h r R)) (S.in1 ∙ ap (token_on s) (wire_1 g i h r R)) (S.in2 ∙ ap (token_on s) (wire_2 g i h r R))
+        together (S.input0 ∙ ap (token_on s) R.input0) (S.input1 ∙ ap (token_on s) R.input1) (S.input2 ∙ ap (token_on s) R.input2)
         (is_stream_lem e) (eq-eqb (record_at (wire_count g) s i).phase 0 (sym phase_is ∙ z)) B
       where
         together : {x0 y0 x1 y1 x2 y2 : Option ℕ} {a b d : Bool} → x0 ≡ y0 → x1 ≡ y1 → x2 ≡ y2 → a ≡ true → b ≡ true
@@ -241,23 +230,27 @@ module _ (g s order : List ℕ) (a : ℕ) where
   unfolding order_below
   below_known e k h = ltb-true _ _ (every_each (λ k. ltb (get_or order k 0) (node_count g)) (length order) e k h)
 
-  refused : (k : ℕ) → k ≡ run_refusal g s order → (k ≡ 0 → ⊥) → RunAnswer g s order a (Refused k) s
+  refused : (e : Refusal) → number_of e ≡ run_refusal g s order → RunAnswer g s order a (Err e) s
   unfolding run_state run_answer
-  refused k e n = run_answers g s order a (Refused k) s (rw (← e, ne_eqb k 0 n)) (rw (← e, ne_eqb k 0 n))
+  refused e q =
+      let z = ne_eqb (number_of e) 0 (not_zero e) in
+      run_answers g s order a (Err e) s (rw (← q, z, refusal_is e)) (rw (← q, z))
 
-  pub run_state_lem : {k : ℕ} → k ≡ state_refusal g s → (k ≡ 0 → ⊥) → RunAnswer g s order a (Refused k) s
+  pub run_state_lem : {A : Type 0} {r : Result A Refusal} → answer_number r ≡ state_refusal g s → (e : Refusal) → r ≡ Err e → RunAnswer g s order a (Err e) s
   unfolding run_refusal
-  run_state_lem {k = k} e n = refused k (sym (ap (λ (x : ℕ). first x (pick (order_below g order) 0 18)) (sym e) ∙ stops _ n)) n
+  run_state_lem q e w =
+      let n : number_of e ≡ state_refusal g s = sym (ap answer_number w) ∙ q in
+      refused e (n ∙ sym (stops (pick (order_below g order) 0 18) (λ z. not_zero e (n ∙ z))))
 
-  pub run_order : {k : ℕ} {b : Bool} → k ≡ state_refusal g s → k ≡ 0 → b ≡ order_below g order → b ≡ false → RunAnswer g s order a (Refused 18) s
+  pub run_order : state_refusal g s ≡ 0 → {b : Bool} → b ≡ order_below g order → b ≡ false → RunAnswer g s order a (Err Order) s
   unfolding run_refusal
-  run_order e z eb tb = refused 18 (sym (skips _ (sym e ∙ z) ∙ rw (← eb, tb))) (λ q. omega arith)
+  run_order z eb tb = refused Order (sym (skips _ z ∙ rw (← eb, tb)))
 
-  pub run_ends : {k l1 l2 : ℕ} {b : Bool} {s1 s2 : List ℕ} {r : Ran} → k ≡ state_refusal g s → k ≡ 0 → b ≡ order_below g order → b ≡ true
+  pub run_ends : {l1 l2 : ℕ} {b : Bool} {s1 s2 : List ℕ} {r : Ran} → state_refusal g s ≡ 0 → b ≡ order_below g order → b ≡ true
       → at s1 l1 ≡ follow (net_of g) order (at s a) → at s2 l2 ≡ finish (net_of g) (node_count g) (at s1 l1) → r ≡ ran_by (outcome g s2) (a - l2)
-      → RunAnswer g s order a r s2
+      → RunAnswer g s order a (Ok r) s2
   unfolding run_refusal run_state run_answer run_firings run_at run
-  run_ends {l2 = l2} {s2 = s2} {r = r} e z eb tb f1 f2 E =
-      let q : first (state_refusal g s) (pick (order_below g order) 0 18) ≡ 0 = skips _ (sym e ∙ z) ∙ rw (← eb, tb) in
+  run_ends {l2 = l2} {s2 = s2} {r = r} z eb tb f1 f2 E =
+      let q : first (state_refusal g s) (pick (order_below g order) 0 18) ≡ 0 = skips _ z ∙ rw (← eb, tb) in
       let p : at s2 l2 ≡ finish (net_of g) (node_count g) (follow (net_of g) order (at s a)) = f2 ∙ ap (finish (net_of g) (node_count g)) f1 in
-      run_answers g s order a r s2 (E ∙ ap (λ (x : At). ran_by (outcome g x.state) (a - x.left)) p ∙ sym (rw q)) (ap (λ (x : At). x.state) p ∙ sym (rw q))
+      run_answers g s order a (Ok r) s2 (ap Ok (E ∙ ap (λ (x : At). ran_by (outcome g x.state) (a - x.left)) p) ∙ sym (rw q)) (ap (λ (x : At). x.state) p ∙ sym (rw q))

@@ -6,7 +6,9 @@
 --   ran_number, ran_outcome, ran_firings      the numbers for each case of the answer
 --
 -- Assumes nothing.
-use Rattle.std.specs.Prelude.{ℕ, ◌-◌, ◌<◌, ◌≡◌, Bool, not, ◌||◌, List, eqb, ltb, get_or, length}
+use Rattle.std.specs.Prelude.{ℕ, ◌-◌, ◌<◌, ◌≡◌, Bool, not, ◌||◌, List, eqb, ltb, get_or, length, Result, Ok, Err}
+use Rattle.refusal.specs.Numbers.{answer_number}
+use Rattle.refusal.specs.declared.Refusal.{Refusal}
 use Rattle.word.specs.Words.{pick}
 use Rattle.graph.specs.Below.{every}
 use Rattle.graph.specs.Graph.{node_count, wire_count}
@@ -15,9 +17,9 @@ use Rattle.state.specs.Net.{net_of, fire, is_ready}
 use Rattle.state.specs.Legal.{state_length}
 use Rattle.state.specs.State.{record_at}
 use Rattle.state.specs.Run.{At, run, Outcome, outcome, is_full, is_result, SPENT, COMPLETE, ZERO-STEP, STRANDED}
-use Rattle.machine.specs.Entries.{first, state_refusal}
+use Rattle.machine.specs.Entries.{first, refusal_of, state_refusal}
 use Rattle.run.specs.declared.Ran.{Ran}
-use Rattle.run.specs.declared.Ran.TheVariants.{Refused, Spent, Complete, ZeroStep, Stranded}
+use Rattle.run.specs.declared.Ran.TheVariants.{Spent, Complete, ZeroStep, Stranded}
 
 -- 18 ORDER: 'some number of the list is not below n, before anything fires'
 unfoldable pub order_below : List ℕ → List ℕ → Bool
@@ -43,32 +45,28 @@ ran_by o f =
     pick (eqb o.answer SPENT) (Spent f)
     (pick (eqb o.answer COMPLETE) (Complete f) (pick (eqb o.answer ZERO-STEP) (ZeroStep f o.node) (Stranded f)))
 
-unfoldable pub run_answer : List ℕ → List ℕ → List ℕ → ℕ → Ran
+unfoldable pub run_answer : List ℕ → List ℕ → List ℕ → ℕ → Result Ran Refusal
 run_answer g s order allowance =
-    pick (eqb (run_refusal g s order) 0) (ran_by (outcome g (run_at g s order allowance).state) (run_firings g s order allowance)) (Refused (run_refusal g s order))
+    pick (eqb (run_refusal g s order) 0) (Ok (ran_by (outcome g (run_at g s order allowance).state) (run_firings g s order allowance))) (Err (refusal_of (run_refusal g s order)))
 
 -- ---- the answer by number. Of a refusal: 'An entry that tells firings or a node answers 0 for them'.
 
-abbrev pub ran_number : Ran → ℕ
-ran_number (Refused n) = n
-ran_number (Spent f) = 0
-ran_number (Complete f) = 0
-ran_number (ZeroStep f i) = 0
-ran_number (Stranded f) = 0
+abbrev pub ran_number : Result Ran Refusal → ℕ
+ran_number r = answer_number r
 
-abbrev pub ran_outcome : Ran → Outcome
-ran_outcome (Refused n) = record { answer = 0; node = 0 }
-ran_outcome (Spent f) = record { answer = SPENT; node = 0 }
-ran_outcome (Complete f) = record { answer = COMPLETE; node = 0 }
-ran_outcome (ZeroStep f i) = record { answer = ZERO-STEP; node = i }
-ran_outcome (Stranded f) = record { answer = STRANDED; node = 0 }
+abbrev pub ran_outcome : Result Ran Refusal → Outcome
+ran_outcome (Err e) = record { answer = 0; node = 0 }
+ran_outcome (Ok (Spent f)) = record { answer = SPENT; node = 0 }
+ran_outcome (Ok (Complete f)) = record { answer = COMPLETE; node = 0 }
+ran_outcome (Ok (ZeroStep f i)) = record { answer = ZERO-STEP; node = i }
+ran_outcome (Ok (Stranded f)) = record { answer = STRANDED; node = 0 }
 
-abbrev pub ran_firings : Ran → ℕ
-ran_firings (Refused n) = 0
-ran_firings (Spent f) = f
-ran_firings (Complete f) = f
-ran_firings (ZeroStep f i) = f
-ran_firings (Stranded f) = f
+abbrev pub ran_firings : Result Ran Refusal → ℕ
+ran_firings (Err e) = 0
+ran_firings (Ok (Spent f)) = f
+ran_firings (Ok (Complete f)) = f
+ran_firings (Ok (ZeroStep f i)) = f
+ran_firings (Ok (Stranded f)) = f
 
 -- what the inner functions rely on: the graph is accepted, and the state has its length
 pub record Runs (g : List ℕ) (len : ℕ) : Type 0 where

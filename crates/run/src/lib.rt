@@ -1,8 +1,9 @@
 // A run: the caller's list once, then sweeps until one fires nothing, within an allowance; and what it answers.
 #![tactic(auto)]
 
-ghost use Rattle.std.specs.Prelude.{◌≡◌, true, false, not, ◌&&◌, ◌||◌, ℕ, ◌+◌, ◌*◌, ◌-◌, ◌<◌, ◌≤◌, ltb, length, get_or};
-ghost use Rattle.step.specs.Shown.{token_of};
+ghost use Rattle.std.specs.Prelude.{◌≡◌, not, ◌&&◌, ◌||◌, ℕ, ◌+◌, ◌*◌, ◌<◌, ◌≤◌, ltb, length, IfSome};
+ghost use Rattle.std.specs.Option.{unwrap_or};
+ghost use Rattle.step.specs.Shown.{given};
 ghost use Rattle.graph.specs.Refusal.{graph_refusal};
 ghost use Rattle.graph.specs.Below.{every};
 ghost use Rattle.graph.specs.Graph.{node_count};
@@ -11,12 +12,12 @@ ghost use Rattle.state.specs.Run.{turn, follow, sweep, finish, is_full, complete
 ghost use Rattle.run.specs.Numbers.{RunAnswer};
 ghost use Rattle.run.specs.Entry.{at, order_below, Runs, Below, idle, ran_by};
 
-const ORDER: u32 = 18;
+use refusal::Refusal;
+use step::Kind;
 
-// What a run answers. Each case but a refusal has the firings made.
-#[derive(Clone, Copy)]
+// What a run answers that is not refused: the firings made, and the node that stalls.
+#[derive(Clone, Copy, Debug, PartialEq, Eq)]
 pub enum Ran {
-    Refused(u32),
     Spent(u64),
     Complete(u64),
     ZeroStep(u64, u32),
@@ -54,10 +55,8 @@ pub fn follow_order(graph: &[u32], state: &mut [u32], order: &[u32], allowance: 
     ensures followed { (at state.new result ≡ follow (net_of graph.now) order.now (at state.old allowance)) × (result ≤ allowance) }
 {
     let mut left = allowance;
-    let mut k: usize = 0;
-    while k < order.len() {
-        left = turn_of(graph, state, graph::wide(order[k]), left);
-        k += 1;
+    for node in order {
+        left = turn_of(graph, state, graph::wide(*node), left);
     }
     left
 }
@@ -69,10 +68,8 @@ pub fn sweep_once(graph: &[u32], state: &mut [u32], allowance: u64) -> u64
 {
     let nodes = graph::wide(graph[0]);
     let mut left = allowance;
-    let mut i: usize = 0;
-    while i < nodes {
+    for i in 0..nodes {
         left = sweep_turn(graph, state, i, left);
-        i += 1;
     }
     left
 }
@@ -84,13 +81,12 @@ fn sweep_all(graph: &[u32], state: &mut [u32], allowance: u64) -> u64
 {
     let mut left = allowance;
     loop {
-        let before = left;
-        left = sweep_once(graph, state, before);
-        if left == before {
-            break;
+        let swept = sweep_once(graph, state, left);
+        if swept == left {
+            return swept;
         }
+        left = swept;
     }
-    left
 }
 
 // What the answer asks of the state that a run ends in.
@@ -100,12 +96,10 @@ fn none_ready(graph: &[u32], state: &[u32]) -> bool
     ensures answer { result ≡ every (node_count graph.now) (idle graph.now state.now) }
 {
     let nodes = graph::wide(graph[0]);
-    let mut i: usize = 0;
-    while i < nodes {
+    for i in 0..nodes {
         if firing::node_ready(graph, state, i) {
             return false;
         }
-        i += 1;
     }
     true
 }
@@ -115,12 +109,10 @@ fn results_full(graph: &[u32], state: &[u32]) -> bool
     ensures answer { result ≡ results_full graph.now state.now }
 {
     let results = graph::wide(graph[3]);
-    let mut k: usize = 0;
-    while k < results {
+    for k in 0..results {
         if firing::is_empty(state, graph::wide(graph::result_at(graph, k))) {
             return false;
         }
-        k += 1;
     }
     true
 }
@@ -143,11 +135,8 @@ fn others_empty(graph: &[u32], state: &[u32]) -> bool
     let mut marks = [0u8; 8192];
     graph::count_results(graph, &mut marks);
     let wires = graph::wide(graph[1]);
-    let mut w: usize = 0;
-    while w < wires {
-        if rest_empty(state, marks[w], w) {
-            w += 1;
-        } else {
+    for w in 0..wires {
+        if !rest_empty(state, marks[w], w) {
             return false;
         }
     }
@@ -160,11 +149,8 @@ fn phases_zero(graph: &[u32], state: &[u32]) -> bool
 {
     let nodes = graph::wide(graph[0]);
     let wires = graph::wide(graph[1]);
-    let mut i: usize = 0;
-    while i < nodes {
-        if state[2 * wires + 4 * i] == 0 {
-            i += 1;
-        } else {
+    for i in 0..nodes {
+        if state[2 * wires + 4 * i] != 0 {
             return false;
         }
     }
@@ -175,26 +161,15 @@ fn is_complete(graph: &[u32], state: &[u32]) -> bool
     requires { Runs graph.now (length state.now) }
     ensures answer { result ≡ complete graph.now state.now }
 {
-    if results_full(graph, state) {
-        if others_empty(graph, state) {
-            return phases_zero(graph, state);
-        }
-    }
-    false
+    results_full(graph, state) && others_empty(graph, state) && phases_zero(graph, state)
 }
 
 // Three tokens, and a step of 0.
 fn stalled(seen: step::Seen) -> bool
-    ensures answer { result ≡ (holds_token (token_of seen.in0) && (holds_zero (token_of seen.in1) && holds_token (token_of seen.in2))) }
+    ensures answer { result ≡ (holds_token (given seen.inputs 0) && (holds_zero (given seen.inputs 1) && holds_token (given seen.inputs 2))) }
 {
-    if seen.in0.full {
-        if seen.in1.full {
-            if seen.in1.word == 0 {
-                return seen.in2.full;
-            }
-        }
-    }
-    false
+    let [start, step, bound] = seen.inputs;
+    start.is_some() && step == Some(0) && bound.is_some()
 }
 
 fn zero_step_at(graph: &[u32], state: &[u32], i: usize) -> bool
@@ -202,9 +177,9 @@ fn zero_step_at(graph: &[u32], state: &[u32], i: usize) -> bool
     ensures answer { result ≡ zero_step_at graph.now state.now i }
 {
     let row = firing::row_of(graph, i);
-    if row.kind != 0 {
+    let Ok(Kind::Stream) = Kind::try_from(row.kind) else {
         return false;
-    }
+    };
     let wires = graph::wide(graph[1]);
     let own = firing::record_at(state, wires, i);
     if own.phase != 0 {
@@ -213,37 +188,34 @@ fn zero_step_at(graph: &[u32], state: &[u32], i: usize) -> bool
     stalled(firing::see(state, row))
 }
 
-// The lowest such STREAM, or the number of nodes where there is none.
-fn zero_step(graph: &[u32], state: &[u32]) -> u32
+// The lowest such STREAM.
+fn zero_step(graph: &[u32], state: &[u32]) -> Option<u32>
     requires { Runs graph.now (length state.now) }
-    ensures answer { result ≡ zero_step graph.now state.now }
+    ensures answer { unwrap_or result (node_count graph.now) ≡ zero_step graph.now state.now }
+    ensures below { IfSome result (λ node. node < node_count graph.now) }
 {
-    let nodes = graph[0];
-    let mut i: u32 = 0;
-    while i < nodes {
-        if zero_step_at(graph, state, graph::wide(i)) {
-            return i;
+    for node in 0..graph[0] {
+        if zero_step_at(graph, state, graph::wide(node)) {
+            return Some(node);
         }
-        i += 1;
     }
-    i
+    None
 }
 
 pub fn ended(graph: &[u32], state: &[u32], firings: u64) -> Ran
     requires { Runs graph.now (length state.now) }
     ensures answer { result ≡ ran_by (outcome graph.now state.now) firings }
 {
-    if none_ready(graph, state) {
-        if is_complete(graph, state) {
-            return Ran::Complete(firings);
-        }
-        let node = zero_step(graph, state);
-        if node < graph[0] {
-            return Ran::ZeroStep(firings, node);
-        }
-        return Ran::Stranded(firings);
+    if !none_ready(graph, state) {
+        return Ran::Spent(firings);
     }
-    Ran::Spent(firings)
+    if is_complete(graph, state) {
+        return Ran::Complete(firings);
+    }
+    match zero_step(graph, state) {
+        Some(node) => Ran::ZeroStep(firings, node),
+        None => Ran::Stranded(firings),
+    }
 }
 
 // No number of the order list is past the last node.
@@ -252,11 +224,8 @@ pub fn order_below(graph: &[u32], order: &[u32]) -> bool
     ensures answer { result ≡ order_below graph.now order.now }
 {
     let nodes = graph[0];
-    let mut k: usize = 0;
-    while k < order.len() {
-        if order[k] < nodes {
-            k += 1;
-        } else {
+    for node in order {
+        if nodes <= *node {
             return false;
         }
     }
@@ -264,17 +233,14 @@ pub fn order_below(graph: &[u32], order: &[u32]) -> bool
 }
 
 // A run of the lent state.
-pub fn run(graph: &[u32], state: &mut [u32], order: &[u32], allowance: u64) -> Ran
+pub fn run(graph: &[u32], state: &mut [u32], order: &[u32], allowance: u64) -> Result<Ran, Refusal>
     ensures answer { RunAnswer graph.now state.old order.now allowance result state.new }
 {
-    let refusal = machine::state_refusal(graph, state);
-    if refusal != 0 {
-        return Ran::Refused(refusal);
-    }
-    if order_below(graph, order) {} else {
-        return Ran::Refused(ORDER);
+    machine::check_state(graph, state)?;
+    if !order_below(graph, order) {
+        return Err(Refusal::Order);
     }
     let followed = follow_order(graph, state, order, allowance);
     let left = sweep_all(graph, state, followed);
-    ended(graph, state, allowance - left)
+    Ok(ended(graph, state, allowance - left))
 }

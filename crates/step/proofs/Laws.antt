@@ -4,18 +4,17 @@
 use mathlib.Core.Path.{◌≡◌, refl, sym, ap, ◌∙◌}
 use mathlib.Core.Bool.{Bool, true, false, ◌&&◌}
 use mathlib.Core.Option.{Option, none, some}
+use Rattle.std.specs.Prelude.{List}
 use Prim.Native.Nat.{ℕ, zero, suc, ◌<◌}
 use native.Mathlib.Omega.{arith}
-use Rattle.word.specs.Words.{pick}
 use Rattle.step.specs.Kinds.{Kind, kind_of, no_kind_past_8}
 use Rattle.step.specs.Firing.{Program, stop, fillable}
 use Rattle.step.specs.Machines.{program, step, step_by, step_of}
-use Rattle.step.specs.Shown.{shown, view_of, effect_of, words_of, decided_by, decided_of, ready, when_ready, unless, ready_apart}
+use Rattle.step.specs.Shown.{shown, view_of, effect_of, words_seen, words_in, words_of, decided_by, decided_of, token_of, ready, when_ready, unless, ready_apart}
 use Rattle.step.specs.declared.Record.{Record}
 use Rattle.step.specs.declared.Seen.{Seen}
 use Rattle.step.specs.declared.Act.{Act}
-use Rattle.step.specs.declared.Firing.{Firing}
-use Rattle.step.specs.declared.Firing.TheVariants.{NotReady, Fires}
+use Rattle.std.specs.Prelude.{get_or, Option as Maybe, None, Some, is_some}
 
 -- a flag that is not 0
 pub true_flag : {f : ℕ} → (f ≡ 0 → ⊥) → (k : ℕ) × (f ≡ suc k)
@@ -51,18 +50,33 @@ no_kind_lem k a b c d e f g h i = no_kind_past_8 k (past_8 k (past_3 k a b c d) 
 
 -- ---- readiness
 
-fillable_token : (b : Bool) (x : ℕ) (r : Bool) → fillable (pick b (some x) none) r ≡ unless b r
-fillable_token true x r = refl
-fillable_token false x r = refl
+pub fillable_token : (t : Maybe ℕ) (r : Bool) → fillable (token_of t) r ≡ unless (is_some t) r
+fillable_token None r = refl
+fillable_token (Some x) r = refl
 
-pub ready_is : (s : Seen) (a : Act) {f0 f1 f2 g0 g1 i1 i0 o r : Bool}
-    → f0 ≡ unless a.takes.in0 s.in0.full → f1 ≡ unless a.takes.in1 s.in1.full → f2 ≡ unless a.takes.in2 s.in2.full
-    → i1 ≡ (f1 && f2) → i0 ≡ (f0 && i1)
-    → g0 ≡ unless a.gives0.full s.room0 → g1 ≡ unless a.gives1.full s.room1 → o ≡ (g0 && g1)
-    → r ≡ (i0 && o) → r ≡ ready s (effect_of a)
+-- `a && b`, where b is asked only if a is true
+pub both_asked : {a v : Bool} (b : Bool) → a ≡ true → v ≡ b → v ≡ (a && b)
+both_asked b h e = rw (h, e)
+
+pub first_fails : {a v : Bool} (b : Bool) → a ≡ false → v ≡ a → v ≡ (a && b)
+first_fails b h e = rw (e, h)
+
+all_asked : (a b d e f : Bool) → ((((a && b) && d) && e) && f) ≡ ((a && (b && d)) && (e && f))
+all_asked true true true e f = refl
+all_asked true true false e f = refl
+all_asked true false d e f = refl
+all_asked false b d e f = refl
+
+pub ready_is : (s : Seen) (a : Act) {t0 t1 t2 t3 r : Bool}
+    → t0 ≡ unless (get_or a.takes 0 false) (is_some (get_or s.inputs 0 None))
+    → t1 ≡ (t0 && unless (get_or a.takes 1 false) (is_some (get_or s.inputs 1 None)))
+    → t2 ≡ (t1 && unless (get_or a.takes 2 false) (is_some (get_or s.inputs 2 None)))
+    → t3 ≡ (t2 && unless (is_some (get_or a.gives 0 None)) (get_or s.room 0 false))
+    → r ≡ (t3 && unless (is_some (get_or a.gives 1 None)) (get_or s.room 1 false))
+    → r ≡ ready s (effect_of a)
 unfolding ready
-ready_is s a e0 e1 e2 e3 e4 e5 e6 e7 e8 =
-    simp (e8, e4, e3, e7, e0, e1, e2, e5, e6, fillable_token a.gives0.full a.gives0.word s.room0, fillable_token a.gives1.full a.gives1.word s.room1)
+ready_is s a e0 e1 e2 e3 e4 =
+    simp (e4, e3, e2, e1, e0, fillable_token (get_or a.gives 0 None) (get_or s.room 0 false), fillable_token (get_or a.gives 1 None) (get_or s.room 1 false), all_asked)
 
 -- ---- the step: what is decided, when it is ready
 
@@ -71,15 +85,15 @@ unfolding step
 by_kind none code s r = refl
 by_kind (some κ) code s r = ready_apart (program κ code r) s r
 
-module _ (kind code : ℕ) (s : Seen) (r : Record) (f : Firing) (d : shown f ≡ decided_of kind code r (words_of s)) where
+module _ (kind code : ℕ) (s : Seen) (r : Record) (f : Maybe Act) {ws : List ℕ} (q : ws ≡ words_seen s) (d : shown f ≡ decided_of kind code r (words_in ws)) where
   whole : step_of kind code (view_of s r) ≡ when_ready s (shown f)
-  whole = by_kind (kind_of kind) code s r ∙ ap (when_ready s) (sym d)
+  whole = by_kind (kind_of kind) code s r ∙ ap (when_ready s) (ap (λ us. decided_of kind code r (words_in us)) (sym q) ∙ sym d)
 
-  pub step_waits : f ≡ NotReady → none ≡ step_of kind code (view_of s r)
+  pub step_waits : f ≡ None → none ≡ step_of kind code (view_of s r)
   step_waits e = sym (whole ∙ rw e)
 
-  pub step_fires : {a : Act} {t : Bool} → f ≡ Fires a → t ≡ ready s (effect_of a) → t ≡ true → some (effect_of a) ≡ step_of kind code (view_of s r)
-  step_fires e q h = sym (whole ∙ rw (e, ← q, h))
+  pub step_fires : {a : Act} {t : Bool} → f ≡ Some a → t ≡ ready s (effect_of a) → t ≡ true → some (effect_of a) ≡ step_of kind code (view_of s r)
+  step_fires e t h = sym (whole ∙ rw (e, ← t, h))
 
-  pub step_blocked : {a : Act} {t : Bool} → f ≡ Fires a → t ≡ ready s (effect_of a) → t ≡ false → none ≡ step_of kind code (view_of s r)
-  step_blocked e q h = sym (whole ∙ rw (e, ← q, h))
+  pub step_blocked : {a : Act} {t : Bool} → f ≡ Some a → t ≡ ready s (effect_of a) → t ≡ false → none ≡ step_of kind code (view_of s r)
+  step_blocked e t h = sym (whole ∙ rw (e, ← t, h))

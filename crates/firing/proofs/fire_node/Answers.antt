@@ -1,12 +1,24 @@
 -- `firing::fire_node` meets its contract. Assumes nothing.
-use Rattle.firing.proofs.Fired.{node_waits, act_room, node_fires}
+use Rattle.std.proofs.Common.{length, ap, ◌∙◌}
+use Rattle.lent.specs.Left.{left_by}
+use Rattle.firing.proofs.Fired.{stepped_is, node_waits, node_fires}
 use Rattle.firing.proofs.fire_node.Goals as goal
 
-pub act-requires : goal.act-requires
-act-requires c = act_room _ _ c.requires.node _ c.row_of-row.ensures.row _ c.look-looked.result.firing c.look-looked.ensures.effect.0 _ c.in-Fires.is _ c.wide-wires.ensures.0 _ c.requires
+pub returns-in-Some : goal.returns-in-Some
+returns-in-Some c =
+    let g = c.args.graph.now in
+    let s = c.args.state.now in
+    let r = c.row_of-row in
+    let step = stepped_is g c.args.i r.result r.ensures.row (length s) c.requires s c.wide-wires.result c.wide-wires.ensures.0 c.see-seen.result c.record_at-own.result c.see-seen.ensures.seen c.record_at-own.ensures.record in
+    let effect = c.advance.ensures.firing.0 ∙ step in
+    let left = c.advance.ensures.firing.1 ∙ ap (λ o. left_by o c.record_at-own.result) step in
+    record { fired = node_fires g c.args.i r.result r.ensures.row (length s) c.requires s c.advance.result effect c.in-Some.done c.in-Some.is c.wide-wires.result c.wide-wires.ensures.0 c.advance.new.own c.record_at-own.result left c.act.new.state c.act.ensures.state }
 
-pub returns-in-NotReady : goal.returns-in-NotReady
-returns-in-NotReady c = record { fired = node_waits _ _ _ c.look-looked.result.firing c.look-looked.ensures.effect.0 c.in-NotReady.is }
-
-pub returns-in-Fires : goal.returns-in-Fires
-returns-in-Fires c = record { fired = node_fires _ _ c.requires.node _ c.row_of-row.ensures.row _ c.look-looked.result.firing c.look-looked.ensures.effect.0 _ c.in-Fires.is _ c.wide-wires.ensures.0 _ _ c.look-looked.ensures.effect.1 _ c.act.ensures.state }
+pub returns-in-None : goal.returns-in-None
+returns-in-None c =
+    let g = c.args.graph.now in
+    let s = c.args.state.now in
+    let r = c.row_of-row in
+    let step = stepped_is g c.args.i r.result r.ensures.row (length s) c.requires s c.wide-wires.result c.wide-wires.ensures.0 c.see-seen.result c.record_at-own.result c.see-seen.ensures.seen c.record_at-own.ensures.record in
+    let effect = c.advance.ensures.firing.0 ∙ step in
+    record { fired = node_waits g c.args.i s c.advance.result effect c.in-None.is }

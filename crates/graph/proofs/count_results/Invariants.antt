@@ -1,4 +1,4 @@
-use Prim.Native.Nat.{◌-◌, ◌≤◌}
+use Prim.Native.Nat.{◌≤◌}
 use mathlib.Core.Path.{◌≡◌}
 use Rattle.graph.specs.Counted.{counted}
 use Rattle.graph.specs.Graph.{results}
@@ -6,6 +6,3 @@ use Rattle.graph.proofs.count_results.Given as goal
 
 abbrev pub invariant-loop-k : goal.invariant-loop-k
 invariant-loop-k l = (l.k ≤ l.results) × (l.seen ≡ counted l.initial.seen (results l.graph l.k))
-
-abbrev pub decreases-loop-k : goal.decreases-loop-k
-decreases-loop-k l = l.results - l.k

@@ -23,7 +23,7 @@ overflow_add-next c = let g = c.args.graph.now in
     let h : c.loop-i.i < node_count g = omega arith in
     omega (
       arith,
-      outputs_at g c.loop-i.i c.row_place-at.result h c.row_place-at.ensures,
+      outputs_at g c.loop-i.i c.row_place.result h c.row_place.ensures,
       total_within (λ j. output_count (node_at g j)) c.loop-i.i (node_count g) h,
       wires_are_all_outputs g c.requires.1,
     )
@@ -33,7 +33,7 @@ loop-i-preserved c = let g = c.args.graph.now in
     let i = c.loop-i.i in
     let h : i < node_count g = omega arith in (
       omega arith,
-      omega (arith, outputs_at g i c.row_place-at.result h c.row_place-at.ensures, total_more (λ j. output_count (node_at g j)) i),
+      omega (arith, outputs_at g i c.row_place.result h c.row_place.ensures, total_more (λ j. output_count (node_at g j)) i),
       one_more_marked g i _ c.loop-i.next c.loop-i.invariant.1 c.loop-i.invariant.2 c.mark_node.ensures,
     )
 

@@ -10,10 +10,10 @@ pub loop-i-init : goal.loop-i-init
 loop-i-init c = (omega arith, rw (sub-zero, c.wide-nodes.ensures.0))
 
 pub loop-i-preserved : goal.loop-i-preserved
-loop-i-preserved c = (omega arith, sym (every_go _ _ _ c.loop-i-test.true c.node_below.ensures c.if-node_below.true) ∙ c.loop-i.invariant.1)
+loop-i-preserved c = (omega arith, sym (every_go _ _ _ c.loop-i-test.true c.node_below.ensures c.if-not-node_below.false) ∙ c.loop-i.invariant.1)
 
-pub returns-else-node_below : goal.returns-else-node_below
-returns-else-node_below c = sym (every_stop _ _ _ c.loop-i-test.true c.node_below.ensures c.if-node_below.false) ∙ c.loop-i.invariant.1
+pub returns-then-not-node_below : goal.returns-then-not-node_below
+returns-then-not-node_below c = sym (every_stop _ _ _ c.loop-i-test.true c.node_below.ensures c.if-not-node_below.true) ∙ c.loop-i.invariant.1
 
 pub returns : goal.returns
 returns c = sym (every_end _ _ _ c.loop-i-test.false) ∙ c.loop-i.invariant.1

@@ -7,6 +7,3 @@ use Rattle.graph.proofs.nodes_below.Given as goal
 
 abbrev pub invariant-loop-i : goal.invariant-loop-i
 invariant-loop-i l = (l.i ≤ l.nodes) × (every_from (l.nodes - l.i) l.i (node_below l.graph) ≡ every (node_count l.graph) (node_below l.graph))
-
-abbrev pub decreases-loop-i : goal.decreases-loop-i
-decreases-loop-i l = l.nodes - l.i

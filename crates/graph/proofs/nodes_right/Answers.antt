@@ -17,26 +17,26 @@ unfolding total
 loop-i-init c = (omega arith, omega arith, omega arith, rw (sub-zero, c.wide-nodes.ensures.0))
 
 pub overflow_add-next : goal.overflow_add-next
-overflow_add-next c = omega (arith, outputs_small (kind_of (get_or c.args.graph.now c.row_place-at.result 0)))
+overflow_add-next c = omega (arith, outputs_small (kind_of (get_or c.args.graph.now c.row_place.result 0)))
 
 pub loop-i-preserved : goal.loop-i-preserved
 loop-i-preserved c = let g = c.args.graph.now in
     let i = c.loop-i.i in
     let h : i < node_count g = omega arith in
-    let at = outputs_at g i c.row_place-at.result h c.row_place-at.ensures in
+    let at = outputs_at g i c.row_place.result h c.row_place.ensures in
     let more = total_more (λ j. output_count (node_at g j)) i in (
       omega arith,
       omega (arith, at, more),
-      omega (arith, outputs_small (kind_of (get_or g c.row_place-at.result 0))),
-      sym (every_go _ _ _ c.loop-i-test.true (c.node_right.ensures ∙ ap (row_right (node_at g i)) c.loop-i.invariant.1) c.if-node_right.true)
+      omega (arith, outputs_small (kind_of (get_or g c.row_place.result 0))),
+      sym (every_go _ _ _ c.loop-i-test.true (c.node_right.ensures ∙ ap (row_right (node_at g i)) c.loop-i.invariant.1) c.if-not-node_right.false)
           ∙ c.loop-i.invariant.3,
     )
 
-pub returns-else-node_right : goal.returns-else-node_right
-returns-else-node_right c = let g = c.args.graph.now in
+pub returns-then-not-node_right : goal.returns-then-not-node_right
+returns-then-not-node_right c = let g = c.args.graph.now in
     rw (
     sym c.loop-i.invariant.3
-    ∙ every_stop _ _ _ c.loop-i-test.true (c.node_right.ensures ∙ ap (row_right (node_at g c.loop-i.i)) c.loop-i.invariant.1) c.if-node_right.false
+    ∙ every_stop _ _ _ c.loop-i-test.true (c.node_right.ensures ∙ ap (row_right (node_at g c.loop-i.i)) c.loop-i.invariant.1) c.if-not-node_right.true
     )
 
 pub returns : goal.returns

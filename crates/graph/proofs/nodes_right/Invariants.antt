@@ -7,6 +7,3 @@ use Rattle.graph.proofs.nodes_right.Given as goal
 
 abbrev pub invariant-loop-i : goal.invariant-loop-i
 invariant-loop-i l = (l.i ≤ l.nodes) × (l.next ≡ first_at l.graph l.i) × (l.next ≤ 512 + 2 * l.i) × (every_from (l.nodes - l.i) l.i (node_right l.graph) ≡ every (node_count l.graph) (node_right l.graph))
-
-abbrev pub decreases-loop-i : goal.decreases-loop-i
-decreases-loop-i l = l.nodes - l.i

@@ -16,12 +16,12 @@ loop-w-init c = (omega arith, rw (sub-zero, c.wide-wires.ensures.0))
 pub loop-w-preserved : goal.loop-w-preserved
 loop-w-preserved c = (
   omega arith,
-  sym (every_go _ _ _ c.loop-w-test.true (once_read_is _ _ (omega arith) c.count_nodes.ensures c.count_results.ensures) (eq-eqb _ _ c.if-seen-w-eq1.true))
+  sym (every_go _ _ _ c.loop-w-test.true (once_read_is _ _ (omega arith) c.count_nodes.ensures c.count_results.ensures) (eq-eqb _ _ c.if-seen-w-ne1.false))
       ∙ c.loop-w.invariant.1,
 )
 
-pub returns-else-seen-w-eq1 : goal.returns-else-seen-w-eq1
-returns-else-seen-w-eq1 c = sym (every_stop _ _ _ c.loop-w-test.true (once_read_is _ _ (omega arith) c.count_nodes.ensures c.count_results.ensures) (ne_eqb _ _ c.if-seen-w-eq1.false))
+pub returns-then-seen-w-ne1 : goal.returns-then-seen-w-ne1
+returns-then-seen-w-ne1 c = sym (every_stop _ _ _ c.loop-w-test.true (once_read_is _ _ (omega arith) c.count_nodes.ensures c.count_results.ensures) (ne_eqb _ _ c.if-seen-w-ne1.true))
     ∙ c.loop-w.invariant.1
 
 pub returns : goal.returns

@@ -6,6 +6,3 @@ use Rattle.graph.proofs.read_once.Given as goal
 
 abbrev pub invariant-loop-w : goal.invariant-loop-w
 invariant-loop-w l = (l.w ≤ l.wires) × (every_from (l.wires - l.w) l.w (once_read l.graph) ≡ read_once l.graph)
-
-abbrev pub decreases-loop-w : goal.decreases-loop-w
-decreases-loop-w l = l.wires - l.w

@@ -14,11 +14,11 @@ loop-k-init c = (omega arith, rw (sub-zero, c.wide-results.ensures.0))
 
 pub loop-k-preserved : goal.loop-k-preserved
 loop-k-preserved c = let g = c.args.graph.now in
-    (omega arith, sym (every_go _ _ _ c.loop-k-test.true (ap (λ w. ltb w (wire_count g)) c.result_at.ensures) (lt-ltb _ _ c.if-result_at-graph.true)) ∙ c.loop-k.invariant.1)
+    (omega arith, sym (every_go _ _ _ c.loop-k-test.true (ap (λ w. ltb w (wire_count g)) c.result_at.ensures) (lt-ltb _ _ c.if-graph-result_at.false)) ∙ c.loop-k.invariant.1)
 
-pub returns-else-result_at-graph : goal.returns-else-result_at-graph
-returns-else-result_at-graph c = let g = c.args.graph.now in
-    sym (every_stop _ _ _ c.loop-k-test.true (ap (λ w. ltb w (wire_count g)) c.result_at.ensures) (le-ltb _ _ c.if-result_at-graph.false)) ∙ c.loop-k.invariant.1
+pub returns-then-graph-result_at : goal.returns-then-graph-result_at
+returns-then-graph-result_at c = let g = c.args.graph.now in
+    sym (every_stop _ _ _ c.loop-k-test.true (ap (λ w. ltb w (wire_count g)) c.result_at.ensures) (le-ltb _ _ c.if-graph-result_at.true)) ∙ c.loop-k.invariant.1
 
 pub returns : goal.returns
 returns c = sym (every_end _ _ _ c.loop-k-test.false) ∙ c.loop-k.invariant.1

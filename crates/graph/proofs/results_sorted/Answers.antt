@@ -17,12 +17,12 @@ sorted-requires c = λ t. omega (arith, result_is_below _ c.requires.1 c.loop-k.
 pub loop-k-preserved : goal.loop-k-preserved
 loop-k-preserved c = (
   omega arith,
-  sym (every_go _ _ _ c.loop-k-test.true (result_sorted_is c.args.graph.now c.args.sorts.now c.loop-k.k c.requires.2 c.result_at.ensures c.sorted.ensures) c.if-sorted.true)
+  sym (every_go _ _ _ c.loop-k-test.true (result_sorted_is c.args.graph.now c.args.sorts.now c.loop-k.k c.requires.2 c.result_at.ensures c.sorted.ensures) c.if-not-sorted.false)
       ∙ c.loop-k.invariant.1,
 )
 
-pub returns-else-sorted : goal.returns-else-sorted
-returns-else-sorted c = sym (every_stop _ _ _ c.loop-k-test.true (result_sorted_is c.args.graph.now c.args.sorts.now c.loop-k.k c.requires.2 c.result_at.ensures c.sorted.ensures) c.if-sorted.false)
+pub returns-then-not-sorted : goal.returns-then-not-sorted
+returns-then-not-sorted c = sym (every_stop _ _ _ c.loop-k-test.true (result_sorted_is c.args.graph.now c.args.sorts.now c.loop-k.k c.requires.2 c.result_at.ensures c.sorted.ensures) c.if-not-sorted.true)
     ∙ c.loop-k.invariant.1
 
 pub returns : goal.returns

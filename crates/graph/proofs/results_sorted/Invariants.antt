@@ -7,6 +7,3 @@ use Rattle.graph.proofs.results_sorted.Given as goal
 
 abbrev pub invariant-loop-k : goal.invariant-loop-k
 invariant-loop-k l = (l.k ≤ l.results) × (every_from (l.results - l.k) l.k (result_sorted l.graph) ≡ every (result_count l.graph) (result_sorted l.graph))
-
-abbrev pub decreases-loop-k : goal.decreases-loop-k
-decreases-loop-k l = l.results - l.k

@@ -7,4 +7,4 @@ pub bounds-sorts-w : goal.bounds-sorts-w
 bounds-sorts-w c = omega (arith, c.requires c.if-present.true)
 
 pub returns-then-present : goal.returns-then-present
-returns-then-present c = rw (c.if-present.true, c.word_of.ensures, c.wide-w.ensures.0)
+returns-then-present c = rw (c.if-present.true, c.from.ensures, c.wide-w.ensures.0)

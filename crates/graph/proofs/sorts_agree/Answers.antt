@@ -10,13 +10,13 @@ mark_nodes-requires c = (c.requires.0, c.requires.1)
 pub nodes_sorted-requires : goal.nodes_sorted-requires
 nodes_sorted-requires c = (c.requires.0, c.requires.2, table_filled c.args.graph.now c.requires.0.wires c.requires.1 c.mark_nodes.ensures)
 
-pub returns-else-nodes_sorted : goal.returns-else-nodes_sorted
+pub returns-then-not-nodes_sorted : goal.returns-then-not-nodes_sorted
 unfolding sorts_agree
-returns-else-nodes_sorted c = rw (← c.nodes_sorted.ensures, c.if-nodes_sorted.false)
+returns-then-not-nodes_sorted c = rw (← c.nodes_sorted.ensures, c.if-not-nodes_sorted.true)
 
 pub results_sorted-requires : goal.results_sorted-requires
 results_sorted-requires c = (c.requires.0, c.requires.2, table_filled c.args.graph.now c.requires.0.wires c.requires.1 c.mark_nodes.ensures)
 
 pub returns : goal.returns
 unfolding sorts_agree
-returns c = rw (← c.nodes_sorted.ensures, c.if-nodes_sorted.true) c.results_sorted.ensures
+returns c = rw (← c.nodes_sorted.ensures, c.if-not-nodes_sorted.false) c.results_sorted.ensures

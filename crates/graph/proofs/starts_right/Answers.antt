@@ -23,15 +23,15 @@ loop-k-preserved c = let g = c.args.graph.now in
       omega arith,
       omega (arith, more),
       omega arith,
-      sym (every_go _ _ _ c.loop-k-test.true (start_right_is g k c.loop-k.invariant.1 c.start_right.ensures) c.if-start_right.true)
+      sym (every_go _ _ _ c.loop-k-test.true (start_right_is g k c.loop-k.invariant.1 c.start_right.ensures) c.if-not-start_right.false)
           ∙ c.loop-k.invariant.3,
     )
 
-pub returns-else-start_right : goal.returns-else-start_right
-returns-else-start_right c = let g = c.args.graph.now in
+pub returns-then-not-start_right : goal.returns-then-not-start_right
+returns-then-not-start_right c = let g = c.args.graph.now in
     sym (
     sym c.loop-k.invariant.3
-    ∙ every_stop _ _ _ c.loop-k-test.true (start_right_is g c.loop-k.k c.loop-k.invariant.1 c.start_right.ensures) c.if-start_right.false
+    ∙ every_stop _ _ _ c.loop-k-test.true (start_right_is g c.loop-k.k c.loop-k.invariant.1 c.start_right.ensures) c.if-not-start_right.true
     )
 
 pub returns : goal.returns

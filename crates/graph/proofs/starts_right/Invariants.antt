@@ -7,6 +7,3 @@ use Rattle.graph.proofs.starts_right.Given as goal
 
 abbrev pub invariant-loop-k : goal.invariant-loop-k
 invariant-loop-k l = (l.k ≤ l.starts) × (l.inputs ≡ inputs_before l.graph l.k) × (l.inputs ≤ l.k) × (every_from (l.starts - l.k) l.k (start_right l.graph) ≡ every (start_count l.graph) (start_right l.graph))
-
-abbrev pub decreases-loop-k : goal.decreases-loop-k
-decreases-loop-k l = l.starts - l.k

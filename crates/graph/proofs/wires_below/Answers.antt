@@ -3,10 +3,10 @@
 use Rattle.graph.specs.Refusal.{wires_below}
 use Rattle.graph.proofs.wires_below.Goals as goal
 
-pub returns-else-nodes_below : goal.returns-else-nodes_below
+pub returns-then-not-nodes_below : goal.returns-then-not-nodes_below
 unfolding wires_below
-returns-else-nodes_below c = rw (← c.nodes_below.ensures, c.if-nodes_below.false)
+returns-then-not-nodes_below c = rw (← c.nodes_below.ensures, c.if-not-nodes_below.true)
 
 pub returns : goal.returns
 unfolding wires_below
-returns c = rw (← c.nodes_below.ensures, c.if-nodes_below.true) c.results_below.ensures
+returns c = rw (← c.nodes_below.ensures, c.if-not-nodes_below.false) c.results_below.ensures

@@ -11,23 +11,8 @@ loop-j-init c = (omega arith, refl, λ p h. absurd (omega arith))
 pub loaded_word-requires : goal.loaded_word-requires
 loaded_word-requires c = c.requires.0
 
-pub offset_bounds-state-j : goal.offset_bounds-state-j
-offset_bounds-state-j c = omega arith
-
-pub bounds-state-j : goal.bounds-state-j
-bounds-state-j c = omega arith
-
-pub overflow_add-j : goal.overflow_add-j
-overflow_add-j c = omega arith
-
-pub loop-j-smaller : goal.loop-j-smaller
-loop-j-smaller c = simp length-set (omega arith)
-
 pub loop-j-preserved : goal.loop-j-preserved
 loop-j-preserved c = (simp length-set (omega arith), simp length-set c.loop-j.invariant.1, filled_more c.loop-j.state c.loop-j.j _ _ (omega arith) c.loop-j.invariant.2 c.loaded_word.ensures.answer)
-
-pub shape_of-state : goal.shape_of-state
-shape_of-state c = c.loop-j.invariant.1
 
 pub returns : goal.returns
 returns c = record { state = filled_whole _ _ _ c.requires.0.accepted (c.loop-j.invariant.1 ∙ c.requires.1) (λ p h. c.loop-j.invariant.2 p (omega arith)) }

@@ -1,10 +1,7 @@
 use Rattle.graph.specs.Graph.{start_count, inputs_before}
 use mathlib.Core.Path.{◌≡◌}
-use Prim.Native.Nat.{◌-◌, ◌≤◌}
+use Prim.Native.Nat.{◌≤◌}
 use Rattle.machine.proofs.input_count.Given as goal
 
 abbrev pub invariant-loop-k : goal.invariant-loop-k
 invariant-loop-k l = (l.k ≤ l.starts) × (l.starts ≡ start_count l.graph) × (l.inputs ≡ inputs_before l.graph l.k)
-
-abbrev pub decreases-loop-k : goal.decreases-loop-k
-decreases-loop-k l = l.starts - l.k

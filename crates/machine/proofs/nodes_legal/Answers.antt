@@ -5,26 +5,17 @@ use native.Mathlib.Omega.{arith}
 use mathlib.Core.Path.{sym, ◌∙◌}
 use Rattle.machine.proofs.nodes_legal.Goals as goal
 
-pub bounds-graph-0 : goal.bounds-graph-0
-bounds-graph-0 c = let a = c.requires.accepted.shape in omega arith
-
 pub loop-i-init : goal.loop-i-init
 loop-i-init c = (omega arith, c.wide-nodes.ensures.0, rw (sub-zero, c.wide-nodes.ensures.0))
 
 pub node_legal-requires : goal.node_legal-requires
 node_legal-requires c = (c.requires, omega arith)
 
-pub overflow_add-i : goal.overflow_add-i
-overflow_add-i c = let a = c.requires.accepted.shape in omega arith
-
-pub loop-i-smaller : goal.loop-i-smaller
-loop-i-smaller c = omega arith
-
 pub loop-i-preserved : goal.loop-i-preserved
-loop-i-preserved c = (omega arith, c.loop-i.invariant.1, sym (every_go _ _ _ c.loop-i-test.true c.node_legal.ensures.answer c.if-node_legal.true) ∙ c.loop-i.invariant.2)
+loop-i-preserved c = (omega arith, c.loop-i.invariant.1, sym (every_go _ _ _ c.loop-i-test.true c.node_legal.ensures.answer c.if-not-node_legal.false) ∙ c.loop-i.invariant.2)
 
-pub returns-else-node_legal : goal.returns-else-node_legal
-returns-else-node_legal c = record { answer = sym (sym c.loop-i.invariant.2 ∙ every_stop _ _ _ c.loop-i-test.true c.node_legal.ensures.answer c.if-node_legal.false) }
+pub returns-then-not-node_legal : goal.returns-then-not-node_legal
+returns-then-not-node_legal c = record { answer = sym (sym c.loop-i.invariant.2 ∙ every_stop _ _ _ c.loop-i-test.true c.node_legal.ensures.answer c.if-not-node_legal.true) }
 
 pub returns : goal.returns
 returns c = record { answer = sym (every_end _ _ _ c.loop-i-test.false) ∙ c.loop-i.invariant.2 }

@@ -7,6 +7,3 @@ use Rattle.machine.proofs.nodes_legal.Given as goal
 
 abbrev pub invariant-loop-i : goal.invariant-loop-i
 invariant-loop-i l = (l.i ≤ l.nodes) × (l.nodes ≡ node_count l.graph) × (every_from (l.nodes - l.i) l.i (legal_node l.graph l.state) ≡ every (node_count l.graph) (legal_node l.graph l.state))
-
-abbrev pub decreases-loop-i : goal.decreases-loop-i
-decreases-loop-i l = l.nodes - l.i

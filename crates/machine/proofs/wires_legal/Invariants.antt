@@ -7,6 +7,3 @@ use Rattle.machine.proofs.wires_legal.Given as goal
 
 abbrev pub invariant-loop-w : goal.invariant-loop-w
 invariant-loop-w l = (l.w ≤ l.wires) × (l.wires ≡ wire_count l.graph) × (every_from (l.wires - l.w) l.w (legal_wire l.graph l.state) ≡ every (wire_count l.graph) (legal_wire l.graph l.state))
-
-abbrev pub decreases-loop-w : goal.decreases-loop-w
-decreases-loop-w l = l.wires - l.w

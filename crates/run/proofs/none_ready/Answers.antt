@@ -20,12 +20,6 @@ node_ready-requires c = placed _ _ _ c.requires.graph c.requires.size (omega ari
 pub returns-then-node_ready : goal.returns-then-node_ready
 returns-then-node_ready c = record { answer = sym (sym c.loop-i.invariant.2 ∙ every_stop _ _ _ c.loop-i-test.true refl (not_is c.node_ready.ensures.ready c.if-node_ready.true)) }
 
-pub overflow_add-i : goal.overflow_add-i
-overflow_add-i c = omega arith
-
-pub loop-i-smaller : goal.loop-i-smaller
-loop-i-smaller c = omega arith
-
 pub loop-i-preserved : goal.loop-i-preserved
 loop-i-preserved c = (omega arith, c.loop-i.invariant.1, sym (every_go _ _ _ c.loop-i-test.true refl (not_isnt c.node_ready.ensures.ready c.if-node_ready.false)) ∙ c.loop-i.invariant.2)
 

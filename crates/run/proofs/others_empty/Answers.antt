@@ -25,18 +25,12 @@ bounds-marks-w c = let a = (accepted _ c.requires.graph).shape in omega arith
 pub rest_empty-requires : goal.rest_empty-requires
 rest_empty-requires c = let z = c.requires.size in omega arith
 
-pub overflow_add-w : goal.overflow_add-w
-overflow_add-w c = let a = (accepted _ c.requires.graph).shape in omega arith
-
-pub loop-w-smaller : goal.loop-w-smaller
-loop-w-smaller c = omega arith
-
 pub loop-w-preserved : goal.loop-w-preserved
-loop-w-preserved c = (omega arith, c.loop-w.invariant.1, sym (every_go (other_empty c.args.graph.now c.args.state.now) _ _ c.loop-w-test.true (other_is c.args.graph.now c.args.state.now c.loop-w.w (let a = (accepted _ c.requires.graph).shape in omega arith) c.count_results.ensures c.rest_empty.ensures.answer) c.if-rest_empty.true) ∙ c.loop-w.invariant.2)
+loop-w-preserved c = (omega arith, c.loop-w.invariant.1, sym (every_go (other_empty c.args.graph.now c.args.state.now) _ _ c.loop-w-test.true (other_is c.args.graph.now c.args.state.now c.loop-w.w (let a = (accepted _ c.requires.graph).shape in omega arith) c.count_results.ensures c.rest_empty.ensures.answer) c.if-not-rest_empty.false) ∙ c.loop-w.invariant.2)
 
-pub returns-else-rest_empty : goal.returns-else-rest_empty
+pub returns-then-not-rest_empty : goal.returns-then-not-rest_empty
 unfolding others_empty
-returns-else-rest_empty c = record { answer = sym (sym c.loop-w.invariant.2 ∙ every_stop (other_empty c.args.graph.now c.args.state.now) _ _ c.loop-w-test.true (other_is c.args.graph.now c.args.state.now c.loop-w.w (let a = (accepted _ c.requires.graph).shape in omega arith) c.count_results.ensures c.rest_empty.ensures.answer) c.if-rest_empty.false) }
+returns-then-not-rest_empty c = record { answer = sym (sym c.loop-w.invariant.2 ∙ every_stop (other_empty c.args.graph.now c.args.state.now) _ _ c.loop-w-test.true (other_is c.args.graph.now c.args.state.now c.loop-w.w (let a = (accepted _ c.requires.graph).shape in omega arith) c.count_results.ensures c.rest_empty.ensures.answer) c.if-not-rest_empty.true) }
 
 pub returns : goal.returns
 unfolding others_empty

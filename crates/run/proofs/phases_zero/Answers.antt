@@ -18,33 +18,15 @@ bounds-graph-1 c = let a = (accepted _ c.requires.graph).shape in omega arith
 pub loop-i-init : goal.loop-i-init
 loop-i-init c = (omega arith, c.wide-nodes.ensures.0, rw (sub-zero, c.wide-nodes.ensures.0))
 
-pub overflow_mul-wires : goal.overflow_mul-wires
-overflow_mul-wires c = omega arith
-
-pub overflow_mul-i : goal.overflow_mul-i
-overflow_mul-i c = omega arith
-
-pub overflow_add-wires : goal.overflow_add-wires
-overflow_add-wires c = omega arith
-
-pub offset_bounds-state-wires : goal.offset_bounds-state-wires
-offset_bounds-state-wires c = omega arith
-
 pub bounds-state-wires : goal.bounds-state-wires
 bounds-state-wires c = let z = c.requires.size in let e = c.wide-wires.ensures.0 in omega arith
 
-pub overflow_add-i : goal.overflow_add-i
-overflow_add-i c = omega arith
-
-pub loop-i-smaller : goal.loop-i-smaller
-loop-i-smaller c = omega arith
-
 pub loop-i-preserved : goal.loop-i-preserved
-loop-i-preserved c = (omega arith, c.loop-i.invariant.1, sym (every_go (at_rest c.args.graph.now c.args.state.now) _ _ c.loop-i-test.true refl (phase_zero c.args.graph.now c.args.state.now c.loop-i.i c.wide-wires.ensures.0 c.if-state-wires-eq0.true)) ∙ c.loop-i.invariant.2)
+loop-i-preserved c = (omega arith, c.loop-i.invariant.1, sym (every_go (at_rest c.args.graph.now c.args.state.now) _ _ c.loop-i-test.true refl (phase_zero c.args.graph.now c.args.state.now c.loop-i.i c.wide-wires.ensures.0 c.if-state-wires-ne0.false)) ∙ c.loop-i.invariant.2)
 
-pub returns-else-state-wires-eq0 : goal.returns-else-state-wires-eq0
+pub returns-then-state-wires-ne0 : goal.returns-then-state-wires-ne0
 unfolding phases_zero
-returns-else-state-wires-eq0 c = record { answer = sym (sym c.loop-i.invariant.2 ∙ every_stop (at_rest c.args.graph.now c.args.state.now) _ _ c.loop-i-test.true refl (phase_not c.args.graph.now c.args.state.now c.loop-i.i c.wide-wires.ensures.0 c.if-state-wires-eq0.false)) }
+returns-then-state-wires-ne0 c = record { answer = sym (sym c.loop-i.invariant.2 ∙ every_stop (at_rest c.args.graph.now c.args.state.now) _ _ c.loop-i-test.true refl (phase_not c.args.graph.now c.args.state.now c.loop-i.i c.wide-wires.ensures.0 c.if-state-wires-ne0.true)) }
 
 pub returns : goal.returns
 unfolding phases_zero

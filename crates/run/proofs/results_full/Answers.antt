@@ -25,12 +25,6 @@ pub returns-then-is_empty : goal.returns-then-is_empty
 unfolding results_full
 returns-then-is_empty c = record { answer = sym (sym c.loop-k.invariant.2 ∙ every_stop (λ k. is_full c.args.state.now (result_at c.args.graph.now k)) _ _ c.loop-k-test.true refl (result_empty c.args.graph.now c.args.state.now c.loop-k.k c.result_at.ensures c.wide.ensures.0 c.is_empty.ensures.room c.if-is_empty.true)) }
 
-pub overflow_add-k : goal.overflow_add-k
-overflow_add-k c = let a = (accepted _ c.requires.graph).shape in omega arith
-
-pub loop-k-smaller : goal.loop-k-smaller
-loop-k-smaller c = omega arith
-
 pub loop-k-preserved : goal.loop-k-preserved
 loop-k-preserved c = (omega arith, c.loop-k.invariant.1, sym (every_go (λ k. is_full c.args.state.now (result_at c.args.graph.now k)) _ _ c.loop-k-test.true refl (result_full c.args.graph.now c.args.state.now c.loop-k.k c.result_at.ensures c.wide.ensures.0 c.is_empty.ensures.room c.if-is_empty.false)) ∙ c.loop-k.invariant.2)
 

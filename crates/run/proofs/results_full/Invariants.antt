@@ -7,6 +7,3 @@ use Rattle.run.proofs.results_full.Given as goal
 
 abbrev pub invariant-loop-k : goal.invariant-loop-k
 invariant-loop-k l = (l.k ≤ l.results) × (l.results ≡ result_count l.graph) × (every_from (l.results - l.k) l.k (λ k'. is_full l.state (result_at l.graph k')) ≡ every (result_count l.graph) (λ k'. is_full l.state (result_at l.graph k')))
-
-abbrev pub decreases-loop-k : goal.decreases-loop-k
-decreases-loop-k l = l.results - l.k

@@ -10,17 +10,11 @@ pub loop-left-init : goal.loop-left-init
 unfolding finish
 loop-left-init c = (refl, omega arith, (c.args.allowance, omega arith, refl))
 
-pub sweep_once-left-requires : goal.sweep_once-left-requires
-sweep_once-left-requires c = record { graph = c.requires.graph; size = c.loop-left.invariant.0 ∙ c.requires.size }
+pub sweep_once-swept-requires : goal.sweep_once-swept-requires
+sweep_once-swept-requires c = record { graph = c.requires.graph; size = c.loop-left.invariant.0 ∙ c.requires.size }
 
-pub loop-left-smaller : goal.loop-left-smaller
-loop-left-smaller c = omega arith
+pub returns-then-swept-left : goal.returns-then-swept-left
+returns-then-swept-left c = record { finished = (sym (sweeps_stop _ _ _ _ c.loop-left.invariant.2.0 c.sweep_once-swept.ensures.swept.0 c.if-swept-left.true) ∙ c.loop-left.invariant.2.2, omega arith) }
 
 pub loop-left-preserved : goal.loop-left-preserved
-loop-left-preserved c = (c.sweep_once-left.auto.state ∙ c.loop-left.invariant.0, omega arith, (c.loop-left.invariant.2.0 - 1, omega arith, sym (sweeps_go _ _ _ _ c.loop-left.invariant.2.0 (omega arith) c.sweep_once-left.ensures.swept.0 c.if-left-before.false) ∙ c.loop-left.invariant.2.2))
-
-pub shape_of-state : goal.shape_of-state
-shape_of-state c = c.sweep_once-left.auto.state ∙ c.loop-left.invariant.0
-
-pub returns : goal.returns
-returns c = record { finished = (sym (sweeps_stop _ _ _ _ c.loop-left.invariant.2.0 c.sweep_once-left.ensures.swept.0 c.if-left-before.true) ∙ c.loop-left.invariant.2.2, omega arith) }
+loop-left-preserved c = (c.sweep_once-swept.auto.state ∙ c.loop-left.invariant.0, omega arith, (c.loop-left.invariant.2.0 - 1, omega arith, sym (sweeps_go _ _ _ _ c.loop-left.invariant.2.0 (omega arith) c.sweep_once-swept.ensures.swept.0 c.if-swept-left.false) ∙ c.loop-left.invariant.2.2))

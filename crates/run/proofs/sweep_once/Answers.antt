@@ -15,12 +15,6 @@ loop-i-init c = (omega arith, c.wide-nodes.ensures.0, refl, omega arith, rw (sub
 pub sweep_turn-left-requires : goal.sweep_turn-left-requires
 sweep_turn-left-requires c = (record { graph = c.requires.graph; size = c.loop-i.invariant.2 ∙ c.requires.size }, omega arith)
 
-pub overflow_add-i : goal.overflow_add-i
-overflow_add-i c = omega arith
-
-pub loop-i-smaller : goal.loop-i-smaller
-loop-i-smaller c = omega arith
-
 pub loop-i-preserved : goal.loop-i-preserved
 loop-i-preserved c = (omega arith, c.loop-i.invariant.1, c.sweep_turn-left.auto.state ∙ c.loop-i.invariant.2, omega arith, rw c.sweep_turn-left.ensures.turn.0 (sym (sweep_go _ _ _ _ c.loop-i-test.true) ∙ c.loop-i.invariant.4))
 

@@ -9,6 +9,3 @@ use Rattle.run.proofs.sweep_once.Given as goal
 
 abbrev pub invariant-loop-i : goal.invariant-loop-i
 invariant-loop-i l = (l.i ≤ l.nodes) × (l.nodes ≡ node_count l.graph) × (length l.state ≡ length l.initial.state) × (l.left ≤ l.allowance) × (sweep_from (net_of l.graph) (l.nodes - l.i) l.i (at l.state l.left) ≡ sweep (net_of l.graph) (node_count l.graph) (at l.initial.state l.allowance))
-
-abbrev pub decreases-loop-i : goal.decreases-loop-i
-decreases-loop-i l = l.nodes - l.i

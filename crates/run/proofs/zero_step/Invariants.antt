@@ -4,8 +4,5 @@ use mathlib.Core.Path.{◌≡◌}
 use Prim.Native.Nat.{◌-◌, ◌≤◌}
 use Rattle.run.proofs.zero_step.Given as goal
 
-abbrev pub invariant-loop-i : goal.invariant-loop-i
-invariant-loop-i l = (l.i ≤ l.nodes) × (l.nodes ≡ node_count l.graph) × (first_from (l.nodes - l.i) l.i (zero_step_at l.graph l.state) ≡ zero_step l.graph l.state)
-
-abbrev pub decreases-loop-i : goal.decreases-loop-i
-decreases-loop-i l = l.nodes - l.i
+abbrev pub invariant-loop-node : goal.invariant-loop-node
+invariant-loop-node l = (l.node ≤ node_count l.graph) × (first_from (node_count l.graph - l.node) l.node (zero_step_at l.graph l.state) ≡ zero_step l.graph l.state)

@@ -7,7 +7,7 @@ use Rattle.step.proofs.carry.Goals as goal
 
 pub returns-in-0 : goal.returns-in-0
 unfolding decided
-returns-in-0 c = record { decision = simp (c.in-0.is, c.some_word.ensures.token, c.in_phase.ensures.record, c.fires.ensures.effect) }
+returns-in-0 c = record { decision = simp (c.in-0.is, c.in_phase.ensures.record, c.fires.ensures.effect) }
 
 pub returns-in-0-d : goal.returns-in-0-d
 unfolding decided
@@ -19,7 +19,7 @@ returns-in_default-d c = record { decision = let q = true_flag c.in_default-d.in
 
 pub returns-in-2 : goal.returns-in-2
 unfolding decided
-returns-in-2 c = record { decision = simp (c.in-2.is, c.some_word-in-2.ensures.token, c.in_phase-in-2.ensures.record, c.fires-in-2.ensures.effect) }
+returns-in-2 c = record { decision = simp (c.in-2.is, c.in_phase-in-2.ensures.record, c.fires-in-2.ensures.effect) }
 
 pub returns-in_default : goal.returns-in_default
 unfolding decided

@@ -7,7 +7,7 @@ use Rattle.step.proofs.fork.Goals as goal
 
 pub returns-in-0 : goal.returns-in-0
 unfolding decided
-returns-in-0 c = record { decision = simp (c.in-0.is, c.some_word.ensures.token, c.some_word-in-0.ensures.token, c.fires.ensures.effect) }
+returns-in-0 c = record { decision = simp (c.in-0.is, c.fires.ensures.effect) }
 
 pub returns-in_default : goal.returns-in_default
 unfolding decided

@@ -11,7 +11,7 @@ returns-in-0-condition c = record { decision = simp (c.in-0.is, c.in-0-condition
 
 pub returns-in_default-condition : goal.returns-in_default-condition
 unfolding decided
-returns-in_default-condition c = record { decision = let q = true_flag c.in_default-condition.in_default-condition-own.rest.1 in simp (c.in-0.is, q.1, c.some_word.ensures.token, c.in_phase.ensures.record, c.fires-in_default-condition.ensures.effect) }
+returns-in_default-condition c = record { decision = let q = true_flag c.in_default-condition.in_default-condition-own.rest.1 in simp (c.in-0.is, q.1, c.in_phase.ensures.record, c.fires-in_default-condition.ensures.effect) }
 
 pub returns-in-0-condition-2 : goal.returns-in-0-condition-2
 unfolding decided
@@ -19,7 +19,7 @@ returns-in-0-condition-2 c = record { decision = simp (c.in-1.is, c.in-0-conditi
 
 pub returns-in_default-condition-2 : goal.returns-in_default-condition-2
 unfolding decided
-returns-in_default-condition-2 c = record { decision = let q = true_flag c.in_default-condition-2.in_default-condition-2-own.rest.1 in simp (c.in-1.is, q.1, c.some_word-in_default-condition-2.ensures.token, c.in_phase-in_default-condition-2.ensures.record, c.fires-in_default-condition-2.ensures.effect) }
+returns-in_default-condition-2 c = record { decision = let q = true_flag c.in_default-condition-2.in_default-condition-2-own.rest.1 in simp (c.in-1.is, q.1, c.in_phase-in_default-condition-2.ensures.record, c.fires-in_default-condition-2.ensures.effect) }
 
 pub returns-in_default : goal.returns-in_default
 unfolding decided

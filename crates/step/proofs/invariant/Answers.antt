@@ -7,7 +7,7 @@ use Rattle.step.proofs.invariant.Goals as goal
 
 pub returns-in-0 : goal.returns-in-0
 unfolding decided
-returns-in-0 c = record { decision = simp (c.in-0.is, c.some_word.ensures.token, c.hold.ensures.record, c.fires.ensures.effect) }
+returns-in-0 c = record { decision = simp (c.in-0.is, c.hold.ensures.record, c.fires.ensures.effect) }
 
 pub returns-in-0-d : goal.returns-in-0-d
 unfolding decided
@@ -15,7 +15,7 @@ returns-in-0-d c = record { decision = simp (c.in-1.is, c.in-0-d.is, c.fires-in-
 
 pub returns-in_default-d : goal.returns-in_default-d
 unfolding decided
-returns-in_default-d c = record { decision = let q = true_flag c.in_default-d.in_default-d-own.rest.1 in simp (c.in-1.is, q.1, c.some_word-in_default-d.ensures.token, c.hold-in_default-d.ensures.record, c.fires-in_default-d.ensures.effect) }
+returns-in_default-d c = record { decision = let q = true_flag c.in_default-d.in_default-d-own.rest.1 in simp (c.in-1.is, q.1, c.hold-in_default-d.ensures.record, c.fires-in_default-d.ensures.effect) }
 
 pub returns-in_default : goal.returns-in_default
 unfolding decided

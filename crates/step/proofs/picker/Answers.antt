@@ -7,11 +7,11 @@ use Rattle.step.proofs.picker.Goals as goal
 
 pub returns-in-0-flag : goal.returns-in-0-flag
 unfolding decided
-returns-in-0-flag c = record { decision = simp (c.in-0.is, c.in-0-flag.is, c.some_word.ensures.token, c.fires.ensures.effect) }
+returns-in-0-flag c = record { decision = simp (c.in-0.is, c.in-0-flag.is, c.fires.ensures.effect) }
 
 pub returns-in_default-flag : goal.returns-in_default-flag
 unfolding decided
-returns-in_default-flag c = record { decision = let q = true_flag c.in_default-flag.in_default-flag-own.rest.1 in simp (c.in-0.is, q.1, c.some_word-in_default-flag.ensures.token, c.fires-in_default-flag.ensures.effect) }
+returns-in_default-flag c = record { decision = let q = true_flag c.in_default-flag.in_default-flag-own.rest.1 in simp (c.in-0.is, q.1, c.fires-in_default-flag.ensures.effect) }
 
 pub returns-in_default : goal.returns-in_default
 unfolding decided

@@ -13,13 +13,13 @@ pub returns-in_default-step : goal.returns-in_default-step
 unfolding decided
 returns-in_default-step c = record { decision = let q = true_flag c.in_default-step.in_default-step-own.rest.1 in simp (c.in-0.is, q.1, c.hold.ensures.record, c.fires.ensures.effect) }
 
-pub returns-in-0-holds : goal.returns-in-0-holds
+pub returns-in-0-condition : goal.returns-in-0-condition
 unfolding decided
-returns-in-0-holds c = record { decision = simp (c.in-1.is, ← c.condition-holds.ensures.answer, c.in-0-holds.is, c.some_word.ensures.token, c.fires-in-0-holds.ensures.effect) }
+returns-in-0-condition c = record { decision = simp (c.in-1.is, ← c.condition.ensures.answer, c.in-0-condition.is, c.fires-in-0-condition.ensures.effect) }
 
-pub returns-in_default-holds : goal.returns-in_default-holds
+pub returns-in_default-condition : goal.returns-in_default-condition
 unfolding decided
-returns-in_default-holds c = record { decision = let q = true_flag c.in_default-holds.in_default-holds-own.rest.1 in simp (c.in-1.is, ← c.condition-holds.ensures.answer, q.1, c.update-index.ensures.answer, c.some_word-in_default-holds.ensures.token, c.hold-in_default-holds.ensures.record, c.fires-in_default-holds.ensures.effect) }
+returns-in_default-condition c = record { decision = let q = true_flag c.in_default-condition.in_default-condition-own.rest.1 in simp (c.in-1.is, ← c.condition.ensures.answer, q.1, c.update-index.ensures.answer, c.hold-in_default-condition.ensures.record, c.fires-in_default-condition.ensures.effect) }
 
 pub returns-in_default : goal.returns-in_default
 unfolding decided
