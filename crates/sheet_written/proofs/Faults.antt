@@ -8,9 +8,6 @@ use borrow.Author.Tests.{ne_eqb, le-leb, lt-leb}
 use mathlib.Core.Bool.{true, false, false≢true}
 use Rattle.std.specs.Prelude.{Option, Some, None, Result, Ok, Err, is_err, is_some}
 use Rattle.table.specs.Telling.{FirstWord}
-use Rattle.refusal.specs.Numbers.{number_of}
-use Rattle.refusal.specs.declared.Refusal.{Refusal}
-use Rattle.refusal.specs.declared.Refusal.TheVariants.{Length, Kind as KindRefused, Spare, Code, Place, Depth, Name, «Type», Open, Room, Shape, Node, Wire, Readers, Sort, Inputs, State, Order, Text}
 use Rattle.table.specs.Kinds.{Decodes}
 use Rattle.table.specs.declared.Kind.{Kind}
 use Rattle.table.specs.declared.UnknownKind.{UnknownKind}
@@ -68,25 +65,3 @@ module _ (t : List ℕ) (n r : ℕ) {f : ℕ} (h : r < n) (e : f ≡ row_fault t
 pub no_row_left : (t : List ℕ) (n r : ℕ) → n ≤ r → fault_from (n - r) t r ≡ answer 0 0
 unfolding fault_from
 no_row_left t n r h = let q : n - r ≡ 0 = omega arith in rw q
-
--- a refusal has a number that is not 0
-pub counts : (x : Refusal) → number_of x ≡ 0 → ⊥
-counts Length e = absurd (omega arith)
-counts KindRefused e = absurd (omega arith)
-counts Spare e = absurd (omega arith)
-counts Code e = absurd (omega arith)
-counts Place e = absurd (omega arith)
-counts Depth e = absurd (omega arith)
-counts Name e = absurd (omega arith)
-counts «Type» e = absurd (omega arith)
-counts Open e = absurd (omega arith)
-counts Room e = absurd (omega arith)
-counts Shape e = absurd (omega arith)
-counts Node e = absurd (omega arith)
-counts Wire e = absurd (omega arith)
-counts Readers e = absurd (omega arith)
-counts Sort e = absurd (omega arith)
-counts Inputs e = absurd (omega arith)
-counts State e = absurd (omega arith)
-counts Order e = absurd (omega arith)
-counts Text e = absurd (omega arith)
