@@ -97,10 +97,8 @@ pub fn count_rows(table: &[u32], n: u32, kind: u32) -> u32
     ensures { result ≡ rows_of kind table.now n }
 {
     let mut count: u32 = 0;
-    let mut r: u32 = 0;
-    while r < n {
+    for r in 0..n {
         count = one_more(table::kind_at(table, r), kind, count);
-        r += 1;
     }
     count
 }
@@ -128,11 +126,9 @@ pub fn first_words(table: &[u32], n: u32, inputs: &[u32]) -> [u32; 512]
 {
     let mut words = [0u32; 512];
     let mut before: u32 = 0;
-    let mut r: u32 = 0;
-    while r < n {
+    for r in 0..n {
         words[r as usize] = first_word(table, inputs, r, before);
         before = one_more(table::kind_at(table, r), INPUT, before);
-        r += 1;
     }
     words
 }
@@ -171,13 +167,11 @@ pub fn note_ends(table: &[u32], n: u32) -> [u32; 512]
 {
     let mut notes = [0u32; 512];
     let mut body = n;
-    let mut r: u32 = 0;
-    while r < n {
+    for r in 0..n {
         let kind = table::kind_at(table, r);
         let next = body_after(kind, &notes, r, body);
         notes[note_at(kind, r, body) as usize] = note_of(kind, r, body);
         body = next;
-        r += 1;
     }
     notes
 }
@@ -200,10 +194,8 @@ fn put_aside(table: &[u32], words: &[u32], aside: &mut [u32], from: u32, k: u32)
     requires { TableRight table.now × Source table.now from k × Long words.now × Long aside.old }
     ensures { Aside table.now from k words.now aside.new }
 {
-    let mut j: u32 = 0;
-    while j < k {
+    for j in 0..k {
         aside[j as usize] = named(table, words, from + j, 1);
-        j += 1;
     }
 }
 
@@ -211,10 +203,8 @@ fn put_back(words: &mut [u32], aside: &[u32], to: u32, k: u32)
     requires { (to + k ≤ 512) × Long words.old × Long aside.now }
     ensures { env_of words.new ≡ placed to k (env_of aside.now) (env_of words.old) }
 {
-    let mut j: u32 = 0;
-    while j < k {
+    for j in 0..k {
         words[(to + j) as usize] = word_of(aside, j);
-        j += 1;
     }
 }
 
@@ -297,9 +287,7 @@ pub fn put_results(table: &[u32], n: u32, words: &[u32], results: &mut [u32])
     ensures { results.new ≡ sets results.old 0 (results_from n table.now (env_of words.now) 0) }
 {
     let mut k: usize = 0;
-    let mut r: u32 = 0;
-    while r < n {
+    for r in 0..n {
         k = put_result(table, words, results, r, k);
-        r += 1;
     }
 }

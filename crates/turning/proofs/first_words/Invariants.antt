@@ -5,7 +5,4 @@ use Prim.Native.Nat.{◌-◌, ◌≤◌}
 use Rattle.turning.proofs.first_words.Given as goal
 
 abbrev pub invariant-loop-r : goal.invariant-loop-r
-invariant-loop-r l = (l.r ≤ l.n) × Begun l.table l.inputs l.r l.words × (l.before ≡ rows_of 0 l.table l.r)
-
-abbrev pub decreases-loop-r : goal.decreases-loop-r
-decreases-loop-r l = l.n - l.r
+invariant-loop-r l = Begun l.table l.inputs l.r l.words × (l.before ≡ rows_of 0 l.table l.r)
