@@ -1,6 +1,5 @@
 use mathlib.Core.Path.{◌≡◌}
 use Rattle.table.specs.Counted.{rows_of}
-use Prim.Native.Nat.{◌-◌, ◌≤◌}
 use Rattle.turning.proofs.count_rows.Given as goal
 
 abbrev pub invariant-loop-r : goal.invariant-loop-r

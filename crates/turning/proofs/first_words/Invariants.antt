@@ -1,7 +1,6 @@
 use Rattle.turning.proofs.Beginning.{Begun}
 use Rattle.table.specs.Counted.{rows_of}
 use mathlib.Core.Path.{◌≡◌}
-use Prim.Native.Nat.{◌-◌, ◌≤◌}
 use Rattle.turning.proofs.first_words.Given as goal
 
 abbrev pub invariant-loop-r : goal.invariant-loop-r

@@ -1,5 +1,4 @@
 use Rattle.turning.proofs.Scanning.{Noted}
-use Prim.Native.Nat.{◌-◌, ◌≤◌}
 use Rattle.turning.proofs.note_ends.Given as goal
 
 abbrev pub invariant-loop-r : goal.invariant-loop-r

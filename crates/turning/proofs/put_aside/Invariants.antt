@@ -1,5 +1,4 @@
 use Rattle.turning.specs.Words.{Long, Aside}
-use Prim.Native.Nat.{◌-◌, ◌≤◌}
 use Rattle.turning.proofs.put_aside.Given as goal
 
 abbrev pub invariant-loop-j : goal.invariant-loop-j

@@ -1,6 +1,5 @@
 use Rattle.turning.specs.Words.{Long, env_of, placed}
 use mathlib.Core.Path.{◌≡◌}
-use Prim.Native.Nat.{◌-◌, ◌≤◌}
 use Rattle.turning.proofs.put_back.Given as goal
 
 abbrev pub invariant-loop-j : goal.invariant-loop-j

@@ -4,7 +4,7 @@ use Rattle.reading.specs.Reading.{results_from}
 use lib.Seq.{sets}
 use lib.ListN.{length}
 use mathlib.Core.Path.{◌≡◌}
-use Prim.Native.Nat.{◌-◌, ◌≤◌}
+use Prim.Native.Nat.{◌-◌}
 use Rattle.turning.proofs.put_results.Given as goal
 
 abbrev pub invariant-loop-r : goal.invariant-loop-r
