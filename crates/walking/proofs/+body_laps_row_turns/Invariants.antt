@@ -24,12 +24,12 @@ invariant-body-loop-i l = (length l.words ≡ length l.initial.words) × (length
 abbrev pub decreases-body-loop-i : goal.decreases-body-loop-i
 decreases-body-loop-i l = l.n - l.i
 
-abbrev pub invariant-turns-loop-p : goal.invariant-turns-loop-p
-invariant-turns-loop-p l =
+abbrev pub invariant-turns-loop-end : goal.invariant-turns-loop-end
+invariant-turns-loop-end l =
     (length l.words ≡ length l.initial.words)
     × (length l.aside ≡ length l.initial.aside)
     × Moves l.table l.first l.initial.words l.allow l.first l.left l.words
     × (l.left ≤ l.allow)
 
-abbrev pub decreases-turns-loop-p : goal.decreases-turns-loop-p
-decreases-turns-loop-p l = l.left
+abbrev pub decreases-turns-loop-end : goal.decreases-turns-loop-end
+decreases-turns-loop-end l = l.left
