@@ -18,6 +18,14 @@ pub struct At {
     pub left: u64,
 }
 
+// A table that passes, its row count, and where its loops end: the END of the loop at row l stands at l.
+#[derive(Clone, Copy)]
+pub struct Rows<'a> {
+    pub table: &'a [u32],
+    pub size: u32,
+    pub ends: &'a [u32; 512],
+}
+
 // Why a walk comes no further: a zero step at a FOR's row with so many turns left, or a turn that is due with none left.
 #[derive(Clone, Copy, Debug, PartialEq, Eq)]
 pub enum Halt {
@@ -56,29 +64,21 @@ fn end_of(table: &[u32], notes: &[u32; 512], l: u32) -> u32
 
 // One row that is no END.
 #[cycle(body_laps_row_turns)]
-fn row(
-    table: &[u32],
-    n: u32,
-    notes: &[u32; 512],
-    words: &mut [u32],
-    aside: &mut [u32],
-    i: u32,
-    left: u64,
-) -> Result<At, Halt>
-    requires { (i < n) × (kind_at table.now i ≡ 7 → ⊥) × Ready table.now n notes.now words.old aside.old }
-    ensures { Rowed table.now i words.old left result words.new }
+fn row(rows: Rows, words: &mut [u32], aside: &mut [u32], i: u32, left: u64) -> Result<At, Halt>
+    requires { (i < rows.size) × (kind_at rows.table.now i ≡ 7 → ⊥) × Ready rows.table.now rows.size rows.ends.now words.old aside.old }
+    ensures { Rowed rows.entry.table.now i words.old left result words.new }
 {
-    let kind = table::kind_at(table, i);
+    let kind = table::kind_at(rows.table, i);
     if kind == Kind::For as u32 {
-        return laps(table, n, notes, words, aside, i, left);
+        return laps(rows, words, aside, i, left);
     }
     let next = At { row: i + 1, left };
     if kind == Kind::Op as u32 {
-        turning::op_row(table, words, i);
+        turning::op_row(rows.table, words, i);
         return Ok(next);
     }
     if kind == Kind::Pick as u32 {
-        turning::pick_row(table, words, i);
+        turning::pick_row(rows.table, words, i);
         return Ok(next);
     }
     Ok(next)
@@ -87,24 +87,22 @@ fn row(
 // The rows from `from` on up to an END or the table's end. A `while`, since a loop's rows are passed over at once.
 #[cycle(body_laps_row_turns)]
 pub fn body(
-    table: &[u32],
-    n: u32,
-    notes: &[u32; 512],
+    rows: Rows,
     words: &mut [u32],
     aside: &mut [u32],
     from: u32,
     allow: u64,
 ) -> Result<At, Halt>
-    requires { (from ≤ n) × Ready table.now n notes.now words.old aside.old }
-    ensures { Walked table.now from words.old allow result words.new }
+    requires { (from ≤ rows.size) × Ready rows.table.now rows.size rows.ends.now words.old aside.old }
+    ensures { Walked rows.entry.table.now from words.old allow result words.new }
 {
     let mut i = from;
     let mut left = allow;
-    while i < n {
-        if table::kind_at(table, i) == Kind::End as u32 {
+    while i < rows.size {
+        if table::kind_at(rows.table, i) == Kind::End as u32 {
             return Ok(At { row: i, left });
         }
-        let next = row(table, n, notes, words, aside, i, left)?;
+        let next = row(rows, words, aside, i, left)?;
         left = next.left;
         i = next.row;
     }
@@ -114,24 +112,22 @@ pub fn body(
 // The turns of the loop at row l, whose first has begun.
 #[cycle(body_laps_row_turns)]
 fn turns(
-    table: &[u32],
-    n: u32,
-    notes: &[u32; 512],
+    rows: Rows,
     words: &mut [u32],
     aside: &mut [u32],
     l: u32,
     first: u32,
     allow: u64,
 ) -> Result<At, Halt>
-    requires { LoopAt table.now l first × Ready table.now n notes.now words.old aside.old }
-    ensures { Turned table.now l first words.old allow result words.new }
+    requires { LoopAt rows.table.now l first × Ready rows.table.now rows.size rows.ends.now words.old aside.old }
+    ensures { Turned rows.entry.table.now l first words.old allow result words.new }
 {
     let mut left = allow;
     loop {
-        let end = body(table, n, notes, words, aside, first, left)?;
-        let x = index_after(table, words, l);
-        if holds(table, words, l, x) == 0 {
-            turning::leave(table, words, aside, l, first, end.row);
+        let end = body(rows, words, aside, first, left)?;
+        let x = index_after(rows.table, words, l);
+        if holds(rows.table, words, l, x) == 0 {
+            turning::leave(rows.table, words, aside, l, first, end.row);
             return Ok(At {
                 row: end.row + 1,
                 left: end.left,
@@ -140,36 +136,28 @@ fn turns(
         if end.left == 0 {
             return Err(Halt::Spent);
         }
-        turning::next_turn(table, words, aside, l, first, end.row, x);
+        turning::next_turn(rows.table, words, aside, l, first, end.row, x);
         left = end.left - 1;
     }
 }
 
 // The loop at row l.
 #[cycle(body_laps_row_turns)]
-fn laps(
-    table: &[u32],
-    n: u32,
-    notes: &[u32; 512],
-    words: &mut [u32],
-    aside: &mut [u32],
-    l: u32,
-    allow: u64,
-) -> Result<At, Halt>
-    requires { (l < n) × (kind_at table.now l ≡ 4) × Ready table.now n notes.now words.old aside.old }
-    ensures { Rowed table.now l words.old allow result words.new }
+fn laps(rows: Rows, words: &mut [u32], aside: &mut [u32], l: u32, allow: u64) -> Result<At, Halt>
+    requires { (l < rows.size) × (kind_at rows.table.now l ≡ 4) × Ready rows.table.now rows.size rows.ends.now words.old aside.old }
+    ensures { Rowed rows.entry.table.now l words.old allow result words.new }
 {
-    if turning::named(table, words, l, 2) == 0 {
+    if turning::named(rows.table, words, l, 2) == 0 {
         return Err(Halt::ZeroStep {
             row: l,
             left: allow,
         });
     }
-    let start = turning::named(table, words, l, 1);
-    let first = turning::first_of(table, l);
-    if holds(table, words, l, start) == 0 {
-        let end = end_of(table, notes, l);
-        turning::pass_over(table, words, aside, l, first, end);
+    let start = turning::named(rows.table, words, l, 1);
+    let first = turning::first_of(rows.table, l);
+    if holds(rows.table, words, l, start) == 0 {
+        let end = end_of(rows.table, rows.ends, l);
+        turning::pass_over(rows.table, words, aside, l, first, end);
         return Ok(At {
             row: end + 1,
             left: allow,
@@ -178,6 +166,6 @@ fn laps(
     if allow == 0 {
         return Err(Halt::Spent);
     }
-    turning::first_turn(table, words, aside, l, first, start);
-    turns(table, n, notes, words, aside, l, first, allow - 1)
+    turning::first_turn(rows.table, words, aside, l, first, start);
+    turns(rows, words, aside, l, first, allow - 1)
 }

@@ -5,8 +5,8 @@ use Rattle.engine.proofs.read_rows.Goals as goal
 pub first_words-words-requires : goal.first_words-words-requires
 first_words-words-requires c = let p = c.requires in (p.0, p.1, p.2)
 
-pub note_ends-notes-requires : goal.note_ends-notes-requires
-note_ends-notes-requires c = let p = c.requires in (p.0, p.1)
+pub note_ends-ends-requires : goal.note_ends-ends-requires
+note_ends-ends-requires c = let p = c.requires in (p.0, p.1)
 
 pub overflow_sub-result : goal.overflow_sub-result
 overflow_sub-result c = let v = c.in-Ok.ensures in let h = v.0.fewer in omega arith

@@ -56,31 +56,31 @@ pub body-returns : goal.body-returns
 body-returns t c = let h = c.loop-i-test.false in let w = c.loop-i.invariant.2.within in let e = c.requires.1.rows in (c.loop-i.invariant.2, inr (omega arith))
 
 pub laps-named-requires : goal.laps-named-requires
-laps-named-requires t c = let p = c.requires in let h = p.0 in let e = p.2.rows in let lt : c.args.l < size c.args.table.now = omega arith in let ok = p.2.right in (ok, (for_names _ ok _ lt p.1).1.0, p.2.words_long)
+laps-named-requires t c = let p = c.requires in let h = p.0 in let e = p.2.rows in let lt : c.args.l < size c.args.rows.table.now = omega arith in let ok = p.2.right in (ok, (for_names _ ok _ lt p.1).1.0, p.2.words_long)
 
 pub laps-shape_of-words-then-named-eq0 : goal.laps-shape_of-words-then-named-eq0
 laps-shape_of-words-then-named-eq0 t c = refl
 
 pub laps-returns-then-named-eq0 : goal.laps-returns-then-named-eq0
-laps-returns-then-named-eq0 t c = let p = c.requires in let h = p.0 in let e = p.2.rows in let lt : c.args.l < size c.args.table.now = omega arith in let ok = p.2.right in opens_zero _ ok _ lt p.1 _ _ c.named.ensures c.if-named-eq0.true
+laps-returns-then-named-eq0 t c = let p = c.requires in let h = p.0 in let e = p.2.rows in let lt : c.args.l < size c.args.rows.table.now = omega arith in let ok = p.2.right in opens_zero _ ok _ lt p.1 _ _ c.named.ensures c.if-named-eq0.true
 
 pub laps-named-start-requires : goal.laps-named-start-requires
-laps-named-start-requires t c = let p = c.requires in let h = p.0 in let e = p.2.rows in let lt : c.args.l < size c.args.table.now = omega arith in let ok = p.2.right in (ok, (for_names _ ok _ lt p.1).0, p.2.words_long)
+laps-named-start-requires t c = let p = c.requires in let h = p.0 in let e = p.2.rows in let lt : c.args.l < size c.args.rows.table.now = omega arith in let ok = p.2.right in (ok, (for_names _ ok _ lt p.1).0, p.2.words_long)
 
 pub laps-first_of-first-requires : goal.laps-first_of-first-requires
-laps-first_of-first-requires t c = let p = c.requires in let h = p.0 in let e = p.2.rows in let lt : c.args.l < size c.args.table.now = omega arith in let ok = p.2.right in (ok, lt, p.1)
+laps-first_of-first-requires t c = let p = c.requires in let h = p.0 in let e = p.2.rows in let lt : c.args.l < size c.args.rows.table.now = omega arith in let ok = p.2.right in (ok, lt, p.1)
 
 pub laps-holds-requires : goal.laps-holds-requires
-laps-holds-requires t c = let p = c.requires in let h = p.0 in let e = p.2.rows in let lt : c.args.l < size c.args.table.now = omega arith in let ok = p.2.right in (ok, lt, p.1, p.2.words_long)
+laps-holds-requires t c = let p = c.requires in let h = p.0 in let e = p.2.rows in let lt : c.args.l < size c.args.rows.table.now = omega arith in let ok = p.2.right in (ok, lt, p.1, p.2.words_long)
 
 pub laps-end_of-end-requires : goal.laps-end_of-end-requires
-laps-end_of-end-requires t c = let p = c.requires in let h = p.0 in let e = p.2.rows in let lt : c.args.l < size c.args.table.now = omega arith in let ok = p.2.right in (ok, p.2.ends, lt, p.1)
+laps-end_of-end-requires t c = let p = c.requires in let h = p.0 in let e = p.2.rows in let lt : c.args.l < size c.args.rows.table.now = omega arith in let ok = p.2.right in (ok, p.2.ends, lt, p.1)
 
 pub laps-pass_over-requires : goal.laps-pass_over-requires
-laps-pass_over-requires t c = let p = c.requires in let h = p.0 in let e = p.2.rows in let lt : c.args.l < size c.args.table.now = omega arith in let ok = p.2.right in (loop_at ok lt p.1 c.first_of-first.ensures, c.end_of-end.ensures, p.2.words_long, p.2.aside_long)
+laps-pass_over-requires t c = let p = c.requires in let h = p.0 in let e = p.2.rows in let lt : c.args.l < size c.args.rows.table.now = omega arith in let ok = p.2.right in (loop_at ok lt p.1 c.first_of-first.ensures, c.end_of-end.ensures, p.2.words_long, p.2.aside_long)
 
 pub laps-overflow_add-result : goal.laps-overflow_add-result
-laps-overflow_add-result t c = let p = c.requires in let h = p.0 in let e = p.2.rows in let lt : c.args.l < size c.args.table.now = omega arith in let ok = p.2.right in let f = end_few _ ok _ lt p.1 c.end_of-end.ensures in omega arith
+laps-overflow_add-result t c = let p = c.requires in let h = p.0 in let e = p.2.rows in let lt : c.args.l < size c.args.rows.table.now = omega arith in let ok = p.2.right in let f = end_few _ ok _ lt p.1 c.end_of-end.ensures in omega arith
 
 pub laps-shape_of-words-then-holds-eq0 : goal.laps-shape_of-words-then-holds-eq0
 laps-shape_of-words-then-holds-eq0 t c = c.pass_over.auto.words
@@ -89,22 +89,22 @@ pub laps-shape_of-aside-then-holds-eq0 : goal.laps-shape_of-aside-then-holds-eq0
 laps-shape_of-aside-then-holds-eq0 t c = c.pass_over.auto.aside
 
 pub laps-returns-then-holds-eq0 : goal.laps-returns-then-holds-eq0
-laps-returns-then-holds-eq0 t c = let p = c.requires in let h = p.0 in let e = p.2.rows in let lt : c.args.l < size c.args.table.now = omega arith in let ok = p.2.right in opens_none _ ok _ lt p.1 _ _ c.named.ensures c.if-named-eq0.false c.named-start.ensures c.holds.ensures c.if-holds-eq0.true c.end_of-end.ensures c.pass_over.ensures
+laps-returns-then-holds-eq0 t c = let p = c.requires in let h = p.0 in let e = p.2.rows in let lt : c.args.l < size c.args.rows.table.now = omega arith in let ok = p.2.right in opens_none _ ok _ lt p.1 _ _ c.named.ensures c.if-named-eq0.false c.named-start.ensures c.holds.ensures c.if-holds-eq0.true c.end_of-end.ensures c.pass_over.ensures
 
 pub laps-shape_of-words-then-allow-eq0 : goal.laps-shape_of-words-then-allow-eq0
 laps-shape_of-words-then-allow-eq0 t c = refl
 
 pub laps-returns-then-allow-eq0 : goal.laps-returns-then-allow-eq0
-laps-returns-then-allow-eq0 t c = let p = c.requires in let h = p.0 in let e = p.2.rows in let lt : c.args.l < size c.args.table.now = omega arith in let ok = p.2.right in opens_spent _ ok _ lt p.1 _ _ c.named.ensures c.if-named-eq0.false c.named-start.ensures c.holds.ensures c.if-holds-eq0.false c.if-allow-eq0.true
+laps-returns-then-allow-eq0 t c = let p = c.requires in let h = p.0 in let e = p.2.rows in let lt : c.args.l < size c.args.rows.table.now = omega arith in let ok = p.2.right in opens_spent _ ok _ lt p.1 _ _ c.named.ensures c.if-named-eq0.false c.named-start.ensures c.holds.ensures c.if-holds-eq0.false c.if-allow-eq0.true
 
 pub laps-first_turn-requires : goal.laps-first_turn-requires
-laps-first_turn-requires t c = let p = c.requires in let h = p.0 in let e = p.2.rows in let lt : c.args.l < size c.args.table.now = omega arith in let ok = p.2.right in (loop_at ok lt p.1 c.first_of-first.ensures, p.2.words_long, p.2.aside_long)
+laps-first_turn-requires t c = let p = c.requires in let h = p.0 in let e = p.2.rows in let lt : c.args.l < size c.args.rows.table.now = omega arith in let ok = p.2.right in (loop_at ok lt p.1 c.first_of-first.ensures, p.2.words_long, p.2.aside_long)
 
 pub laps-overflow_sub-allow : goal.laps-overflow_sub-allow
 laps-overflow_sub-allow t c = let h = c.if-allow-eq0.false in omega arith
 
 pub laps-turns-requires : goal.laps-turns-requires
-laps-turns-requires t c = let p = c.requires in let h = p.0 in let e = p.2.rows in let lt : c.args.l < size c.args.table.now = omega arith in let ok = p.2.right in let m = c.decreases in (omega arith, (loop_at ok lt p.1 c.first_of-first.ensures, still_ready p.2 c.first_turn.auto.words c.first_turn.auto.aside))
+laps-turns-requires t c = let p = c.requires in let h = p.0 in let e = p.2.rows in let lt : c.args.l < size c.args.rows.table.now = omega arith in let ok = p.2.right in let m = c.decreases in (omega arith, (loop_at ok lt p.1 c.first_of-first.ensures, still_ready p.2 c.first_turn.auto.words c.first_turn.auto.aside))
 
 pub laps-shape_of-words : goal.laps-shape_of-words
 laps-shape_of-words t c = c.turns.auto.words ∙ c.first_turn.auto.words
@@ -113,13 +113,13 @@ pub laps-shape_of-aside : goal.laps-shape_of-aside
 laps-shape_of-aside t c = c.turns.auto.aside ∙ c.first_turn.auto.aside
 
 pub laps-returns : goal.laps-returns
-laps-returns t c = let p = c.requires in let h = p.0 in let e = p.2.rows in let lt : c.args.l < size c.args.table.now = omega arith in let ok = p.2.right in turns_walk _ ok _ lt p.1 _ _ c.named.ensures c.if-named-eq0.false c.named-start.ensures c.holds.ensures c.turns.result _ _ c.if-holds-eq0.false c.if-allow-eq0.false c.first_of-first.ensures c.first_turn.ensures c.turns.ensures
+laps-returns t c = let p = c.requires in let h = p.0 in let e = p.2.rows in let lt : c.args.l < size c.args.rows.table.now = omega arith in let ok = p.2.right in turns_walk _ ok _ lt p.1 _ _ c.named.ensures c.if-named-eq0.false c.named-start.ensures c.holds.ensures c.turns.result _ _ c.if-holds-eq0.false c.if-allow-eq0.false c.first_of-first.ensures c.first_turn.ensures c.turns.ensures
 
 pub row-kind_at-kind-requires : goal.row-kind_at-kind-requires
-row-kind_at-kind-requires t c = let p = c.requires in let h = p.0 in let e = p.2.rows in let f = few_rows _ p.2.right in let lt : c.args.i < size c.args.table.now = omega arith in row_asked _ p.2.right _ lt
+row-kind_at-kind-requires t c = let p = c.requires in let h = p.0 in let e = p.2.rows in let f = few_rows _ p.2.right in let lt : c.args.i < size c.args.rows.table.now = omega arith in row_asked _ p.2.right _ lt
 
 pub row-laps-requires : goal.row-laps-requires
-row-laps-requires t c = let p = c.requires in let h = p.0 in let e = p.2.rows in let f = few_rows _ p.2.right in let lt : c.args.i < size c.args.table.now = omega arith in let k = sym c.kind_at-kind.ensures ∙ c.if-kind.true in let m = c.decreases in let q = room _ p.2.right _ lt k in
+row-laps-requires t c = let p = c.requires in let h = p.0 in let e = p.2.rows in let f = few_rows _ p.2.right in let lt : c.args.i < size c.args.rows.table.now = omega arith in let k = sym c.kind_at-kind.ensures ∙ c.if-kind.true in let m = c.decreases in let q = room _ p.2.right _ lt k in
     (omega arith, (p.0, k, p.2))
 
 pub row-shape_of-words-then-kind : goal.row-shape_of-words-then-kind
@@ -132,28 +132,28 @@ pub row-returns-then-kind : goal.row-returns-then-kind
 row-returns-then-kind t c = c.laps.ensures
 
 pub row-op_row-requires : goal.row-op_row-requires
-row-op_row-requires t c = let p = c.requires in let h = p.0 in let e = p.2.rows in let f = few_rows _ p.2.right in let lt : c.args.i < size c.args.table.now = omega arith in (p.2.right, lt, sym c.kind_at-kind.ensures ∙ c.if-kind-2.true, p.2.words_long)
+row-op_row-requires t c = let p = c.requires in let h = p.0 in let e = p.2.rows in let f = few_rows _ p.2.right in let lt : c.args.i < size c.args.rows.table.now = omega arith in (p.2.right, lt, sym c.kind_at-kind.ensures ∙ c.if-kind-2.true, p.2.words_long)
 
 pub row-overflow_add-next : goal.row-overflow_add-next
-row-overflow_add-next t c = let p = c.requires in let h = p.0 in let e = p.2.rows in let f = few_rows _ p.2.right in let lt : c.args.i < size c.args.table.now = omega arith in omega arith
+row-overflow_add-next t c = let p = c.requires in let h = p.0 in let e = p.2.rows in let f = few_rows _ p.2.right in let lt : c.args.i < size c.args.rows.table.now = omega arith in omega arith
 
 pub row-shape_of-words-then-kind-2 : goal.row-shape_of-words-then-kind-2
 row-shape_of-words-then-kind-2 t c = c.op_row.auto.words
 
 pub row-returns-then-kind-2 : goal.row-returns-then-kind-2
-row-returns-then-kind-2 t c = let p = c.requires in let h = p.0 in let e = p.2.rows in let f = few_rows _ p.2.right in let lt : c.args.i < size c.args.table.now = omega arith in op_walks _ _ _ _ _ lt c.kind_at-kind.ensures c.if-kind-2.true c.op_row.ensures
+row-returns-then-kind-2 t c = let p = c.requires in let h = p.0 in let e = p.2.rows in let f = few_rows _ p.2.right in let lt : c.args.i < size c.args.rows.table.now = omega arith in op_walks _ _ _ _ _ lt c.kind_at-kind.ensures c.if-kind-2.true c.op_row.ensures
 
 pub row-pick_row-requires : goal.row-pick_row-requires
-row-pick_row-requires t c = let p = c.requires in let h = p.0 in let e = p.2.rows in let f = few_rows _ p.2.right in let lt : c.args.i < size c.args.table.now = omega arith in (p.2.right, lt, sym c.kind_at-kind.ensures ∙ c.if-kind-3.true, p.2.words_long)
+row-pick_row-requires t c = let p = c.requires in let h = p.0 in let e = p.2.rows in let f = few_rows _ p.2.right in let lt : c.args.i < size c.args.rows.table.now = omega arith in (p.2.right, lt, sym c.kind_at-kind.ensures ∙ c.if-kind-3.true, p.2.words_long)
 
 pub row-shape_of-words-then-kind-3 : goal.row-shape_of-words-then-kind-3
 row-shape_of-words-then-kind-3 t c = c.pick_row.auto.words
 
 pub row-returns-then-kind-3 : goal.row-returns-then-kind-3
-row-returns-then-kind-3 t c = let p = c.requires in let h = p.0 in let e = p.2.rows in let f = few_rows _ p.2.right in let lt : c.args.i < size c.args.table.now = omega arith in pick_walks _ _ _ _ _ lt c.kind_at-kind.ensures c.if-kind-3.true c.pick_row.ensures
+row-returns-then-kind-3 t c = let p = c.requires in let h = p.0 in let e = p.2.rows in let f = few_rows _ p.2.right in let lt : c.args.i < size c.args.rows.table.now = omega arith in pick_walks _ _ _ _ _ lt c.kind_at-kind.ensures c.if-kind-3.true c.pick_row.ensures
 
 pub row-returns : goal.row-returns
-row-returns t c = let p = c.requires in let h = p.0 in let e = p.2.rows in let f = few_rows _ p.2.right in let lt : c.args.i < size c.args.table.now = omega arith in other_walks _ _ _ _ _ lt c.kind_at-kind.ensures c.if-kind-2.false c.if-kind-3.false c.if-kind.false p.1 refl
+row-returns t c = let p = c.requires in let h = p.0 in let e = p.2.rows in let f = few_rows _ p.2.right in let lt : c.args.i < size c.args.rows.table.now = omega arith in other_walks _ _ _ _ _ lt c.kind_at-kind.ensures c.if-kind-2.false c.if-kind-3.false c.if-kind.false p.1 refl
 
 pub turns-loop-end-init : goal.turns-loop-end-init
 turns-loop-end-init t c = (refl, refl, stays _ _ _ _, omega arith)
