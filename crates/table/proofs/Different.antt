@@ -15,6 +15,9 @@ use Rattle.table.specs.declared.NameFault.{NameFault}
 use Rattle.table.specs.declared.NameFault.TheVariants.{Later, Valueless, Closed, Entered, Unended}
 use Rattle.table.specs.declared.Broken.{Broken}
 use Rattle.table.specs.declared.Broken.TheVariants.{Length, Kind as BrokenKind, Spare, Code, Place, Depth, Name, «Type», Open}
+use Rattle.refusal.specs.Numbers.{number_of}
+use Rattle.refusal.specs.declared.Refusal.{Refusal}
+use Rattle.refusal.specs.declared.Refusal.TheVariants.{Length as RefusedLength, Kind as RefusedKind, Spare as RefusedSpare, Code as RefusedCode, Place as RefusedPlace, Depth as RefusedDepth, Name as RefusedName, «Type» as RefusedType, Open as RefusedOpen, Room, Shape, Node, Wire, Readers, Sort, Inputs, State, Order, Text}
 use Rattle.table.specs.declared.Kind.{Kind}
 use Rattle.table.specs.declared.Kind.TheVariants.{Input, Const, Op, Pick, For, Arg, Next, End, Out}
 
@@ -105,3 +108,25 @@ kind_few Arg = omega arith
 kind_few Next = omega arith
 kind_few End = omega arith
 kind_few Out = omega arith
+
+-- a refusal has a number that is not 0
+pub refusal_counts : (x : Refusal) → number_of x ≡ 0 → ⊥
+refusal_counts RefusedLength e = absurd (omega arith)
+refusal_counts RefusedKind e = absurd (omega arith)
+refusal_counts RefusedSpare e = absurd (omega arith)
+refusal_counts RefusedCode e = absurd (omega arith)
+refusal_counts RefusedPlace e = absurd (omega arith)
+refusal_counts RefusedDepth e = absurd (omega arith)
+refusal_counts RefusedName e = absurd (omega arith)
+refusal_counts RefusedType e = absurd (omega arith)
+refusal_counts RefusedOpen e = absurd (omega arith)
+refusal_counts Room e = absurd (omega arith)
+refusal_counts Shape e = absurd (omega arith)
+refusal_counts Node e = absurd (omega arith)
+refusal_counts Wire e = absurd (omega arith)
+refusal_counts Readers e = absurd (omega arith)
+refusal_counts Sort e = absurd (omega arith)
+refusal_counts Inputs e = absurd (omega arith)
+refusal_counts State e = absurd (omega arith)
+refusal_counts Order e = absurd (omega arith)
+refusal_counts Text e = absurd (omega arith)

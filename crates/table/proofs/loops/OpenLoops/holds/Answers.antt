@@ -1,9 +1,9 @@
--- `table::OpenLoops::holds` meets its contract. Invariant: none of the entries below k is the loop's. Assumes nothing.
+-- `table::loops::OpenLoops::holds` meets its contract. Invariant: none of the entries below k is the loop's. Assumes nothing.
 use mathlib.Core.Path.{refl, sym}
 use native.Mathlib.Omega.{arith}
 use Rattle.table.specs.Kept.{open_loops}
-use Rattle.table.proofs.Loops.{holds_here, holds_more}
-use Rattle.table.proofs.OpenLoops.holds.Goals as goal
+use Rattle.table.proofs.Opened.{holds_here, holds_more}
+use Rattle.table.proofs.loops.OpenLoops.holds.Goals as goal
 
 pub loop-k-init : goal.loop-k-init
 unfolding open_loops

@@ -1,20 +1,20 @@
 -- The open loops as entries and a depth: how `open_loops` meets a depth of 0, an entry more, and a store.
 -- Assumes nothing.
 use Prim.Native.Nat.{ℕ, zero, suc, ◌+◌, ◌-◌, ◌<◌, ◌≤◌}
-use mathlib.Core.Bool.{Bool, true, false, cond}
+use mathlib.Core.Bool.{Bool, true, false, cond, not}
 use mathlib.Core.List.{List, [], ◌∷◌}
 use mathlib.Core.Path.{◌≡◌, refl, sym, ap}
 use native.Mathlib.Omega.{arith}
-use native.Mathlib.Decide.{ℕ_discrete}
-use borrow.Author.Tests.{ne_eqb, eq-eqb}
-use lib.Dec.{eqb}
+use native.Mathlib.Decide.{ℕ_discrete, dec_lt}
+use borrow.Author.Tests.{ne_eqb, eq-eqb, le-leb, lt-leb, le-ltb, lt-ltb}
+use lib.Dec.{eqb, leb, ltb}
 use lib.ListN.{get_or, set, length}
 use lib.Seq.{get_or-set_same, get_or-set_other}
 use Rattle.table.specs.Rows.{kind_at}
 use Rattle.table.specs.Scan.{Loop, opened, one_arg, one_next, at_head, outward, after, stack_at, holds}
 use Rattle.table.specs.Check.{outside}
 use Rattle.table.specs.Kept.{loop_of, unopened, open_loops, Counted}
-use Rattle.table.specs.declared.OpenLoop.{OpenLoop}
+use Rattle.table.specs.declared.loops.OpenLoop.{OpenLoop}
 
 module _ (a : List OpenLoop) (d : ℕ) where
   pub open_none : d ≡ 0 → open_loops a d ≡ []
@@ -97,3 +97,6 @@ counted_by t (suc r) = counted_after (kind_at t r) r (stack_at t r) (counted_by 
 
 pub counted_at : (t : List ℕ) (r n : ℕ) → r ≤ n → Counted n (stack_at t r)
 counted_at t r n h = counted_more r n (stack_at t r) h (counted_by t r)
+
+pub not_full : (d : ℕ) → not (leb 8 d) ≡ ltb d 8
+not_full d = elim (dec_lt d 8) [ yes l ↦ rw (lt-leb 8 d l, lt-ltb d 8 l) | no n ↦ (let h : 8 ≤ d = omega arith in rw (le-leb 8 d h, le-ltb d 8 h)) ]
