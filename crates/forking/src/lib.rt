@@ -291,11 +291,11 @@ fn note_sort(rows: &[u32; 28672], i: usize, sorts: &mut [u32; 8192])
     let code = rows[p + 1];
     let sort = rows[p + 2];
     let first = rows[p + 6] as usize;
-    sorts[first] = graph::out0_sort(kind, code, sort);
+    sorts[first] = graph::output_sort(kind, code, sort, 0);
     if graph::outputs_of(kind) < 2 {
         return;
     }
-    sorts[first + 1] = graph::out1_sort(kind, code, sort);
+    sorts[first + 1] = graph::output_sort(kind, code, sort, 1);
 }
 
 pub fn note_sorts(rows: &[u32; 28672], nodes: usize, sorts: &mut [u32; 8192])

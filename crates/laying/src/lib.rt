@@ -8,6 +8,7 @@ ghost use Rattle.table.specs.Scan.{home};
 ghost use Rattle.lowered.specs.Lower.{plain_nodes, plain_wires, start_total, result_total};
 ghost use Rattle.written.specs.Plain.{Laid, Outs};
 ghost use Rattle.carrying.specs.Kept.{Counted, Bases as BasesOf, Low, OnTheWay};
+ghost use Rattle.step.specs.Named.{number_of};
 ghost use Rattle.laying.specs.Entering.{Room, copy_rows, Entering, Entered, Resolved, Takes, Carries};
 ghost use Rattle.laying.specs.Using.{Counting, UseAt, UseResolved, UsesResolved, Values};
 ghost use Rattle.laying.specs.Rows.{Operands, op_row, pick_row, loop_rows, arg_rows, Known, RowLaid, RowsLaid, OutsLaid};
@@ -17,21 +18,6 @@ use table::Kind;
 
 // How many nodes the rows have room for.
 const ROOM: u32 = 4096;
-
-// The kinds of nodes.
-const STREAM: u32 = 0;
-
-const GATE: u32 = 1;
-
-const CARRY: u32 = 2;
-
-const INVARIANT: u32 = 3;
-
-const SPLIT: u32 = 4;
-
-const OP: u32 = 7;
-
-const PICK: u32 = 8;
 
 // The operator of the first condition.
 const CONDITIONS: u32 = 3;
@@ -44,28 +30,28 @@ fn put(rows: &mut [u32; 28672], i: u32, w: u32)
     rows[i as usize] = w;
 }
 
-// Row i: the kind, the code, the sort, the three inputs and the first output.
-fn put_row(
-    rows: &mut [u32; 28672],
-    i: u32,
-    kind: u32,
+// A node before forks: its inputs are the numbers of their sources, and `first` is its first output.
+#[derive(Clone, Copy)]
+struct Node {
+    kind: step::Kind,
     code: u32,
     sort: u32,
-    a: u32,
-    b: u32,
-    c: u32,
+    inputs: [u32; 3],
     first: u32,
-)
+}
+
+// The row of node i: seven words.
+fn put_row(rows: &mut [u32; 28672], i: u32, node: Node)
     requires { i < 4096 }
-    ensures { rows.new ≡ sets rows.old (7 * i) (kind ∷ code ∷ sort ∷ a ∷ b ∷ c ∷ first ∷ []) }
+    ensures { rows.new ≡ sets rows.old (7 * i) (number_of node.kind ∷ node.code ∷ node.sort ∷ get_or node.inputs 0 0 ∷ get_or node.inputs 1 0 ∷ get_or node.inputs 2 0 ∷ node.first ∷ []) }
 {
-    put(rows, 7 * i, kind);
-    put(rows, 7 * i + 1, code);
-    put(rows, 7 * i + 2, sort);
-    put(rows, 7 * i + 3, a);
-    put(rows, 7 * i + 4, b);
-    put(rows, 7 * i + 5, c);
-    put(rows, 7 * i + 6, first);
+    put(rows, 7 * i, node.kind.number());
+    put(rows, 7 * i + 1, node.code);
+    put(rows, 7 * i + 2, node.sort);
+    put(rows, 7 * i + 3, node.inputs[0]);
+    put(rows, 7 * i + 4, node.inputs[1]);
+    put(rows, 7 * i + 5, node.inputs[2]);
+    put(rows, 7 * i + 6, node.first);
 }
 
 // The copy of a value for a loop whose nodes start at i and wires at w: its SPLIT on the guard, its INVARIANT on the gated condition.
@@ -77,24 +63,24 @@ fn lay_copy(rows: &mut [u32; 28672], i: u32, w: u32, place: u32, sort: u32, oute
     put_row(
         rows,
         i + 3 + 2 * place,
-        SPLIT,
-        0,
-        sort,
-        w + 4,
-        outer,
-        graph::ABSENT,
-        leg,
+        Node {
+            kind: step::Kind::Split,
+            code: 0,
+            sort,
+            inputs: [w + 4, outer, graph::ABSENT],
+            first: leg,
+        },
     );
     put_row(
         rows,
         i + 4 + 2 * place,
-        INVARIANT,
-        0,
-        sort,
-        w + 3,
-        leg,
-        graph::ABSENT,
-        w + 7 + 3 * place,
+        Node {
+            kind: step::Kind::Invariant,
+            code: 0,
+            sort,
+            inputs: [w + 3, leg, graph::ABSENT],
+            first: w + 7 + 3 * place,
+        },
     );
 }
 
@@ -244,13 +230,13 @@ fn lay_op(table: &[u32], bases: &Bases, at: &[u32; 1536], rows: &mut [u32; 28672
     put_row(
         rows,
         i,
-        OP,
-        code,
-        0,
-        wire_of(at, 3 * r),
-        wire_of(at, 3 * r + 1),
-        graph::ABSENT,
-        w,
+        Node {
+            kind: step::Kind::Op,
+            code,
+            sort: 0,
+            inputs: [wire_of(at, 3 * r), wire_of(at, 3 * r + 1), graph::ABSENT],
+            first: w,
+        },
     );
 }
 
@@ -264,7 +250,17 @@ fn lay_pick(bases: &Bases, at: &[u32; 1536], rows: &mut [u32; 28672], r: u32)
     let a = wire_of(at, 3 * r);
     let b = wire_of(at, 3 * r + 1);
     let c = wire_of(at, 3 * r + 2);
-    put_row(rows, i, PICK, 0, 0, a, b, c, w);
+    put_row(
+        rows,
+        i,
+        Node {
+            kind: step::Kind::Pick,
+            code: 0,
+            sort: 0,
+            inputs: [a, b, c],
+            first: w,
+        },
+    );
 }
 
 // FOR: its STREAM, its GATE and its guard.
@@ -279,18 +275,38 @@ fn lay_loop(table: &[u32], bases: &Bases, at: &[u32; 1536], rows: &mut [u32; 286
     let a = wire_of(at, 3 * r);
     let b = wire_of(at, 3 * r + 1);
     let c = wire_of(at, 3 * r + 2);
-    put_row(rows, i, STREAM, 5 * update + condition, 0, a, b, c, w);
-    put_row(rows, i + 1, GATE, 0, 0, w, w + 1, graph::ABSENT, w + 2);
+    put_row(
+        rows,
+        i,
+        Node {
+            kind: step::Kind::Stream,
+            code: 5 * update + condition,
+            sort: 0,
+            inputs: [a, b, c],
+            first: w,
+        },
+    );
+    put_row(
+        rows,
+        i + 1,
+        Node {
+            kind: step::Kind::Gate,
+            code: 0,
+            sort: 0,
+            inputs: [w, w + 1, graph::ABSENT],
+            first: w + 2,
+        },
+    );
     put_row(
         rows,
         i + 2,
-        OP,
-        CONDITIONS + condition,
-        0,
-        a,
-        c,
-        graph::ABSENT,
-        w + 4,
+        Node {
+            kind: step::Kind::Op,
+            code: CONDITIONS + condition,
+            sort: 0,
+            inputs: [a, c, graph::ABSENT],
+            first: w + 4,
+        },
     );
 }
 
@@ -306,15 +322,25 @@ fn lay_arg(notes: &Notes, bases: &Bases, at: &[u32; 1536], rows: &mut [u32; 2867
     put_row(
         rows,
         i,
-        CARRY,
-        0,
-        0,
-        raw,
-        wire_of(at, 3 * r),
-        wire_of(at, 3 * next),
-        w,
+        Node {
+            kind: step::Kind::Carry,
+            code: 0,
+            sort: 0,
+            inputs: [raw, wire_of(at, 3 * r), wire_of(at, 3 * next)],
+            first: w,
+        },
     );
-    put_row(rows, i + 1, SPLIT, 0, 0, raw, w, graph::ABSENT, w + 1);
+    put_row(
+        rows,
+        i + 1,
+        Node {
+            kind: step::Kind::Split,
+            code: 0,
+            sort: 0,
+            inputs: [raw, w, graph::ABSENT],
+            first: w + 1,
+        },
+    );
 }
 
 // The nodes of row r, but for the copies of a loop.
