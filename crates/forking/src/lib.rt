@@ -4,6 +4,7 @@
 ghost use Rattle.std.specs.Prelude.{◌≡◌, [], ◌∷◌, ℕ, ◌+◌, ◌-◌, ◌*◌, ◌<◌, ◌≤◌, eqb, length, get_or, replicate};
 ghost use Rattle.std.proofs.lemmas.List.Edits.{sets};
 ghost use Rattle.word.specs.Words.{flag};
+ghost use Rattle.table.specs.Kinds.{kind_number};
 ghost use Rattle.graph.specs.Below.{joined, total};
 ghost use Rattle.lowered.specs.Lower.{start_words};
 ghost use Rattle.laid.specs.Counts.{leg_at};
@@ -12,9 +13,8 @@ ghost use Rattle.forking.specs.Forked.{added_wires, added_nodes, nodes_by, Freed
 ghost use Rattle.forking.specs.Sorted.{sorted_row, sorted_rows, FirstFits};
 ghost use Rattle.forking.specs.Written.{row_inputs, row_outs, Sourced, stand_of, row_words_by, row_words, out_words, start_by, Scratch, uses_of};
 
-const FORK: u32 = 5;
-
-const DRAIN: u32 = 6;
+use carrying::Passed;
+use step::Kind;
 
 // Scratch: `rows` has the nodes before forks, seven words each, with the numbers of their inputs' sources; `outs` has those of the results.
 // A table of 8,192 words has a place for each wire: how often it is used, the first number that is free for its forks, its sort.
@@ -218,7 +218,7 @@ fn write_chain(sort: u32, wire: u32, uses: u32, free: u32, graph: &mut [u32], at
     let mut p = at;
     for k in 0..uses - 1 {
         let f = free + 2 * k;
-        three(graph, p, FORK, 0, sort);
+        three(graph, p, Kind::Fork.number(), 0, sort);
         four(graph, p + 3, x, graph::ABSENT, graph::ABSENT, f);
         x = f + 1;
         p += 7;
@@ -230,7 +230,7 @@ fn write_forks_of(sort: u32, wire: u32, uses: u32, free: u32, graph: &mut [u32],
     ensures { graph.new ≡ sets graph.old at (fork_words sort wire uses free) }
 {
     if uses == 0 {
-        three(graph, at, DRAIN, 0, sort);
+        three(graph, at, Kind::Drain.number(), 0, sort);
         four(
             graph,
             at + 3,
@@ -257,27 +257,32 @@ pub fn write_forks(sorts: &[u32; 8192], uses: &Uses, wires: u32, graph: &mut [u3
 }
 
 // A start: 0 and its number among the inputs, or 1 and its constant. Answers how many inputs there are so far.
-fn write_start(kind: u32, word: u32, inputs: u32, graph: &mut [u32], at: usize) -> u32
+fn write_start(kind: table::Kind, word: u32, inputs: u32, graph: &mut [u32], at: usize) -> u32
     requires { (inputs < 512) × (at + 2 ≤ length graph.old) }
-    ensures { (result ≡ inputs + flag (eqb kind 0)) × (graph.new ≡ sets graph.old at (start_by kind word inputs)) }
+    ensures { (result ≡ inputs + flag (eqb (kind_number kind) 0)) × (graph.new ≡ sets graph.old at (start_by (kind_number kind) word inputs)) }
 {
-    if kind == 0 {
-        graph[at] = 0;
-        graph[at + 1] = inputs;
-        return inputs + 1;
+    match kind {
+        table::Kind::Input => {
+            graph[at] = 0;
+            graph[at + 1] = inputs;
+            inputs + 1
+        }
+        _ => {
+            graph[at] = 1;
+            graph[at + 1] = word;
+            inputs
+        }
     }
-    graph[at] = 1;
-    graph[at + 1] = word;
-    inputs
 }
 
-pub fn write_starts(table: &[u32], starts: usize, graph: &mut [u32], at: usize)
-    requires { (6 * starts ≤ length table.now) × (starts ≤ 512) × (at + 2 * starts ≤ length graph.old) }
-    ensures { graph.new ≡ sets graph.old at (joined (start_words table.now) starts) }
+pub fn write_starts(passed: &Passed, starts: u32, graph: &mut [u32], at: usize)
+    requires { (starts ≤ passed.now.rows) × (at + 2 * starts ≤ length graph.old) }
+    ensures { graph.new ≡ sets graph.old at (joined (start_words passed.now.words.now) starts) }
 {
-    let mut inputs: u32 = 0;
+    let mut inputs = 0;
     for r in 0..starts {
-        inputs = write_start(table[6 * r], table[6 * r + 1], inputs, graph, at + 2 * r);
+        let word = table::word_at(passed.words, r, 1);
+        inputs = write_start(passed.kind(r), word, inputs, graph, at + 2 * r as usize);
     }
 }
 

@@ -16,14 +16,14 @@ use refusal::Refused;
 
 // The graph's words in their order. The uses are numbered by node first and by result last, so the results' legs need the nodes' tally.
 fn write_graph(
-    table: &[u32],
+    passed: &Passed,
     rows: &[u32; 28672],
     outs: &[u32; 512],
     sizes: &Sizes,
     graph: &mut [u32],
 )
-    requires { Ready table.now rows.now outs.now sizes.now.uses.count sizes.now.uses.free × Counted table.now sizes.now.plain sizes.now.sources sizes.now.nodes sizes.now.wires sizes.now.starts sizes.now.results × (length (lowered_words table.now) ≤ length graph.old) }
-    ensures { graph.new ≡ sets graph.old 0 (lowered_words table.now) }
+    requires { Ready passed.now.words.now rows.now outs.now sizes.now.uses.count sizes.now.uses.free × Counted passed.now.words.now sizes.now.plain sizes.now.sources sizes.now.nodes sizes.now.wires sizes.now.starts sizes.now.results × (length (lowered_words passed.now.words.now) ≤ length graph.old) }
+    ensures { graph.new ≡ sets graph.old 0 (lowered_words passed.now.words.now) }
 {
     let starts = sizes.starts as usize;
     let results = sizes.results as usize;
@@ -37,7 +37,7 @@ fn write_graph(
         sizes.starts,
         sizes.results,
     );
-    forking::write_starts(table, starts, graph, 4);
+    forking::write_starts(passed, sizes.starts, graph, 4);
     let mut seen = [0; 8192];
     forking::tally_rows(rows, plain, &mut seen);
     forking::write_results(outs, results, &sizes.uses, &mut seen, graph, place);
@@ -80,6 +80,6 @@ pub fn lower(table: &[u32], graph: &mut [u32]) -> Result<usize, Refused>
     if graph.len() < needed {
         return Err(passed.crowded());
     }
-    write_graph(table, &rows, &outs, &sizes, graph);
+    write_graph(&passed, &rows, &outs, &sizes, graph);
     Ok(needed)
 }

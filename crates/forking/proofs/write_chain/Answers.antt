@@ -25,7 +25,7 @@ loop-k-preserved c =
     let f : a.free + 2 * (l.k + 1) ≡ a.free + 2 * l.k + 2 = omega arith in (
       d ∙ e ∙ l.invariant.0,
       omega arith,
-      rw (k, f) (chain_more a.sort l.x (a.uses - l.k) (a.free + 2 * l.k) l.graph l.p (omega arith) c.three.ensures c.four.ensures ∙ l.invariant.2),
+      rw (k, f) (chain_more a.sort l.x (a.uses - l.k) (a.free + 2 * l.k) l.graph l.p (omega arith) (rw c.number.ensures at c.three.ensures) c.four.ensures ∙ l.invariant.2),
     )
 
 pub shape_of-graph : goal.shape_of-graph

@@ -40,10 +40,8 @@ returns-then-graph-needed c =
 
 pub write_graph-requires : goal.write_graph-requires
 write_graph-requires c =
-    let t = c.args.table.now in
-    let w = c.in_ok-passed.ensures.words in
-    let q = rw w at c.in_ok-sizes.ensures.ready in
-    let e = words_are t q.1 refl refl refl in
+    let q = c.in_ok-sizes.ensures.ready in
+    let e = words_are _ q.1 refl refl refl in
     let l = c.if-graph-needed.false in
     (q.0, q.1, omega arith)
 
@@ -53,5 +51,5 @@ returns c =
     let w = c.in_ok-passed.ensures.words in
     let q = rw w at c.in_ok-sizes.ensures.ready in
     record {
-      answer = lower_done t c.in_ok-passed.ensures.answer c.args.graph.now refl (rw w at c.in_ok-sizes.ensures.answer) (words_are t q.1 refl refl refl) c.if-graph-needed.false c.write_graph.ensures;
+      answer = lower_done t c.in_ok-passed.ensures.answer c.args.graph.now refl (rw w at c.in_ok-sizes.ensures.answer) (words_are t q.1 refl refl refl) c.if-graph-needed.false (rw w at c.write_graph.ensures);
     }

@@ -17,8 +17,8 @@ four-requires c = let p = c.requires in let k = rooms_of _ _ _ _ _ p.0 (length c
 
 pub write_starts-requires : goal.write_starts-requires
 write_starts-requires c = let p = c.requires in let k = rooms_of _ _ _ _ _ p.0 (length c.args.graph.now) p.1 p.2 in
-    let ks = k.starts in let kt = k.table in let ka = k.all in let l = c.four.auto.graph in
-    (omega arith, omega arith, omega arith)
+    let ks = k.starts in let kt = k.table in let ka = k.all in let l = c.four.auto.graph in let P = c.args.passed.now.passing.rows in
+    (omega arith, omega arith)
 
 pub tally_rows-requires : goal.tally_rows-requires
 tally_rows-requires c = let p = c.requires in let Y = p.0 in let d = p.1.plain in let f = Y.nodes_few in
@@ -69,5 +69,5 @@ shape_of-graph c = let l = c.four.auto.graph in let m = c.write_starts.auto.grap
 
 pub returns : goal.returns
 returns c = let a = c.args in let p = c.requires in
-    graph_written a.table.now a.rows.now a.outs.now _ _ p.0 _ _ _ _ _ _ p.1 a.graph.now _ _ _ _ _ refl refl refl
+    graph_written a.passed.now.words.now a.rows.now a.outs.now _ _ p.0 _ _ _ _ _ _ p.1 a.graph.now _ _ _ _ _ refl refl refl
     c.four.ensures c.write_starts.ensures c.tally_rows.ensures c.write_results.ensures c.write_rows.ensures c.note_sorts.ensures c.write_forks.ensures
