@@ -1,7 +1,7 @@
 -- The table of reads as the code fills it: one read, one node, one more node, one more result.
 -- Assumes nothing.
-use Prim.Native.Nat.{ℕ, zero, suc, ◌+◌, ◌<◌}
-use mathlib.Core.Path.{◌≡◌, refl}
+use Prim.Native.Nat.{ℕ, ◌+◌, ◌<◌}
+use mathlib.Core.Path.{◌≡◌}
 use mathlib.Core.Bool.{Bool, true, false}
 use mathlib.Core.List.{List, [], ◌∷◌}
 use lib.Dec.{eqb, ltb}
@@ -13,10 +13,6 @@ use Rattle.graph.specs.Graph.{node_count, row_place, result_count, column, node_
 use Rattle.graph.specs.Refusal.{once_read}
 use Rattle.graph.specs.Counted.{once_more, counted, counted_append, counted_once}
 use Rattle.graph.proofs.Rows.{reads_at}
-
-pub once_more_than_none : {t : ℕ} → (t ≡ 0 → ⊥) → 2 ≡ once_more t
-once_more_than_none {t = zero} h = absurd (h refl)
-once_more_than_none {t = suc t} h = refl
 
 pub one_read : (t : List ℕ) {present : Bool} {w wire x : ℕ} → present ≡ true → w ≡ wire → x ≡ once_more (get_or t w 0)
     → set t w x ≡ counted t (pick present (wire ∷ []) [])

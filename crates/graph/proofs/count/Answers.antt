@@ -1,14 +1,7 @@
 -- `graph::count` meets its contract. One read, or none where the input is absent.
 -- Assumes nothing.
-use native.Mathlib.Omega.{arith}
 use Rattle.graph.proofs.Readers.{one_read, no_read}
 use Rattle.graph.proofs.count.Goals as goal
-
-pub bounds-seen-w : goal.bounds-seen-w
-bounds-seen-w c = omega (arith, c.requires c.if-present.true)
-
-pub bounds-seen-w-then-present : goal.bounds-seen-w-then-present
-bounds-seen-w-then-present c = omega (arith, c.requires c.if-present.true)
 
 pub returns-then-present : goal.returns-then-present
 returns-then-present c = one_read _ c.if-present.true c.wide-w.ensures.0 c.once_more.ensures

@@ -4,9 +4,6 @@ use Rattle.graph.specs.Refusal.{sorts_agree}
 use Rattle.graph.proofs.Sorts.{table_filled}
 use Rattle.graph.proofs.sorts_agree.Goals as goal
 
-pub mark_nodes-requires : goal.mark_nodes-requires
-mark_nodes-requires c = (c.requires.0, c.requires.1)
-
 pub nodes_sorted-requires : goal.nodes_sorted-requires
 nodes_sorted-requires c = (c.requires.0, c.requires.2, table_filled c.args.graph.now c.requires.0.wires c.requires.1 c.mark_nodes.ensures)
 

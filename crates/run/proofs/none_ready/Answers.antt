@@ -3,16 +3,12 @@ use Rattle.run.proofs.Ends.{not_is, not_isnt}
 use Rattle.machine.proofs.Answers.{placed}
 use Rattle.graph.specs.Accepted.{accepted}
 use Rattle.graph.specs.Below.{every_go, every_stop, every_end}
-use native.Mathlib.Nat.{sub-zero}
 use native.Mathlib.Omega.{arith}
 use mathlib.Core.Path.{refl, sym, ◌∙◌}
 use Rattle.run.proofs.none_ready.Goals as goal
 
 pub bounds-graph-0 : goal.bounds-graph-0
 bounds-graph-0 c = let a = (accepted _ c.requires.graph).shape in omega arith
-
-pub loop-i-init : goal.loop-i-init
-loop-i-init c = (omega arith, c.wide-nodes.ensures.0, rw (sub-zero, c.wide-nodes.ensures.0))
 
 pub node_ready-requires : goal.node_ready-requires
 node_ready-requires c = placed _ _ _ c.requires.graph c.requires.size (omega arith)

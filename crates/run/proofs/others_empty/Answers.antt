@@ -5,7 +5,6 @@ use Rattle.state.specs.Run.{others_empty}
 use Rattle.graph.specs.Accepted.{passed}
 use Rattle.graph.specs.Accepted.{accepted}
 use Rattle.graph.specs.Below.{every_go, every_stop, every_end}
-use native.Mathlib.Nat.{sub-zero}
 use native.Mathlib.Omega.{arith}
 use mathlib.Core.Path.{sym, ◌∙◌}
 use Rattle.run.proofs.others_empty.Goals as goal
@@ -16,14 +15,8 @@ count_results-requires c = ((accepted _ c.requires.graph).shape, (passed _ c.req
 pub bounds-graph-1 : goal.bounds-graph-1
 bounds-graph-1 c = let a = (accepted _ c.requires.graph).shape in omega arith
 
-pub loop-w-init : goal.loop-w-init
-loop-w-init c = (omega arith, c.wide-wires.ensures.0, rw (sub-zero, c.wide-wires.ensures.0))
-
 pub bounds-marks-w : goal.bounds-marks-w
 bounds-marks-w c = let a = (accepted _ c.requires.graph).shape in omega arith
-
-pub rest_empty-requires : goal.rest_empty-requires
-rest_empty-requires c = let z = c.requires.size in omega arith
 
 pub loop-w-preserved : goal.loop-w-preserved
 loop-w-preserved c = (omega arith, c.loop-w.invariant.1, sym (every_go (other_empty c.args.graph.now c.args.state.now) _ _ c.loop-w-test.true (other_is c.args.graph.now c.args.state.now c.loop-w.w (let a = (accepted _ c.requires.graph).shape in omega arith) c.count_results.ensures c.rest_empty.ensures.answer) c.if-not-rest_empty.false) ∙ c.loop-w.invariant.2)

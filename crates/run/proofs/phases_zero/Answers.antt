@@ -4,7 +4,6 @@ use Rattle.run.specs.Entry.{at_rest}
 use Rattle.state.specs.Run.{phases_zero}
 use Rattle.graph.specs.Accepted.{accepted}
 use Rattle.graph.specs.Below.{every_go, every_stop, every_end}
-use native.Mathlib.Nat.{sub-zero}
 use native.Mathlib.Omega.{arith}
 use mathlib.Core.Path.{refl, sym, ◌∙◌}
 use Rattle.run.proofs.phases_zero.Goals as goal
@@ -14,12 +13,6 @@ bounds-graph-0 c = let a = (accepted _ c.requires.graph).shape in omega arith
 
 pub bounds-graph-1 : goal.bounds-graph-1
 bounds-graph-1 c = let a = (accepted _ c.requires.graph).shape in omega arith
-
-pub loop-i-init : goal.loop-i-init
-loop-i-init c = (omega arith, c.wide-nodes.ensures.0, rw (sub-zero, c.wide-nodes.ensures.0))
-
-pub bounds-state-wires : goal.bounds-state-wires
-bounds-state-wires c = let z = c.requires.size in let e = c.wide-wires.ensures.0 in omega arith
 
 pub loop-i-preserved : goal.loop-i-preserved
 loop-i-preserved c = (omega arith, c.loop-i.invariant.1, sym (every_go (at_rest c.args.graph.now c.args.state.now) _ _ c.loop-i-test.true refl (phase_zero c.args.graph.now c.args.state.now c.loop-i.i c.wide-wires.ensures.0 c.if-state-wires-ne0.false)) ∙ c.loop-i.invariant.2)

@@ -4,16 +4,12 @@ use Rattle.state.specs.Run.{results_full, is_full}
 use Rattle.graph.specs.Graph.{result_at}
 use Rattle.graph.specs.Accepted.{accepted}
 use Rattle.graph.specs.Below.{every_go, every_stop, every_end}
-use native.Mathlib.Nat.{sub-zero}
 use native.Mathlib.Omega.{arith}
 use mathlib.Core.Path.{refl, sym, ◌∙◌}
 use Rattle.run.proofs.results_full.Goals as goal
 
 pub bounds-graph-3 : goal.bounds-graph-3
 bounds-graph-3 c = let a = (accepted _ c.requires.graph).shape in omega arith
-
-pub loop-k-init : goal.loop-k-init
-loop-k-init c = (omega arith, c.wide-results.ensures.0, rw (sub-zero, c.wide-results.ensures.0))
 
 pub result_at-requires : goal.result_at-requires
 result_at-requires c = ((accepted _ c.requires.graph).shape, omega arith)

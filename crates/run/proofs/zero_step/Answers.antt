@@ -4,19 +4,12 @@ use Rattle.state.specs.Run.{zero_step_at}
 use Rattle.graph.specs.Graph.{node_count}
 use mathlib.Core.Path.{◌≡◌}
 use Rattle.graph.specs.Accepted.{accepted}
-use native.Mathlib.Nat.{sub-zero}
 use native.Mathlib.Omega.{arith}
 use mathlib.Core.Path.{sym, ap, ◌∙◌}
 use Rattle.run.proofs.zero_step.Goals as goal
 
 pub bounds-graph-0 : goal.bounds-graph-0
 bounds-graph-0 c = let a = (accepted _ c.requires.graph).shape in omega arith
-
-pub loop-node-init : goal.loop-node-init
-loop-node-init c = (omega arith, rw sub-zero)
-
-pub zero_step_at-requires : goal.zero_step_at-requires
-zero_step_at-requires c = (c.requires, let e = c.wide.ensures.0 in omega arith)
 
 pub returns-then-zero_step_at : goal.returns-then-zero_step_at
 returns-then-zero_step_at c = record { answer = sym (sym c.loop-node.invariant.1 ∙ first_found _ _ _ c.loop-node-test.true (c.zero_step_at.ensures.answer ∙ ap (zero_step_at _ _) c.wide.ensures.0) c.if-zero_step_at.true); below = c.loop-node-test.true }
