@@ -3,8 +3,8 @@
 use Rattle.graph.proofs.Readers.{one_read, no_read}
 use Rattle.graph.proofs.count.Goals as goal
 
-pub returns-then-present : goal.returns-then-present
-returns-then-present c = one_read _ c.if-present.true c.wide-w.ensures.0 c.once_more.ensures
+pub returns-in-Some : goal.returns-in-Some
+returns-in-Some c = one_read _ c.in-Some.is c.wide-w.ensures.0 c.once_more.ensures
 
-pub returns-else-present : goal.returns-else-present
-returns-else-present c = no_read _ _ c.if-present.false
+pub returns-in_default : goal.returns-in_default
+returns-in_default c = no_read _ c.in_default.is

@@ -13,7 +13,7 @@ unfolding counted joined
 loop-k-init c = (omega arith, refl)
 
 pub count-requires : goal.count-requires
-count-requires c = λ t. omega (arith, result_is_below _ c.requires.1 c.loop-k.k (omega arith))
+count-requires c = omega (arith, result_is_below _ c.requires.1 c.loop-k.k (omega arith))
 
 pub loop-k-preserved : goal.loop-k-preserved
 loop-k-preserved c = (omega arith, one_result c.args.graph.now _ _ c.loop-k.invariant.1 c.result_at.ensures c.count.ensures)

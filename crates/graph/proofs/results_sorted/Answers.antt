@@ -8,7 +8,7 @@ use Rattle.graph.proofs.Sorts.{result_sorted_is}
 use Rattle.graph.proofs.results_sorted.Goals as goal
 
 pub sorted-requires : goal.sorted-requires
-sorted-requires c = λ t. omega (arith, result_is_below _ c.requires.1 c.loop-k.k (omega arith))
+sorted-requires c = omega (arith, result_is_below _ c.requires.1 c.loop-k.k (omega arith))
 
 pub loop-k-preserved : goal.loop-k-preserved
 loop-k-preserved c = (
