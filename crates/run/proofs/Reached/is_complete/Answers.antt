@@ -1,8 +1,8 @@
 -- `run::is_complete` meets its contract. Assumes nothing.
 use Rattle.std.proofs.Common.{sym, ◌∙◌}
 use Rattle.run.proofs.Ends.{true_not_false, complete_all, others_not, results_not}
-use Rattle.run.proofs.is_complete.Goals as goal
-use Rattle.run.proofs.is_complete.Goals.{then-results_full, else-results_full}
+use Rattle.run.proofs.Reached.is_complete.Goals as goal
+use Rattle.run.proofs.Reached.is_complete.Goals.{then-results_full, else-results_full}
 
 pub returns-then-others_empty : goal.returns-then-others_empty
 returns-then-others_empty c =

@@ -5,13 +5,13 @@ use Rattle.graph.specs.Accepted.{accepted}
 use Rattle.graph.specs.Below.{every_go, every_stop, every_end}
 use native.Mathlib.Omega.{arith}
 use mathlib.Core.Path.{refl, sym, ◌∙◌}
-use Rattle.run.proofs.none_ready.Goals as goal
+use Rattle.run.proofs.Reached.none_ready.Goals as goal
 
-pub bounds-graph-0 : goal.bounds-graph-0
-bounds-graph-0 c = let a = (accepted _ c.requires.graph).shape in omega arith
+pub bounds-self-0 : goal.bounds-self-0
+bounds-self-0 c = let a = (accepted _ c.args.self.now.accepted).shape in omega arith
 
 pub node_ready-requires : goal.node_ready-requires
-node_ready-requires c = placed _ _ _ c.requires.graph c.requires.size (omega arith)
+node_ready-requires c = placed _ _ _ c.args.self.now.accepted c.args.self.now.whole (omega arith)
 
 pub returns-then-node_ready : goal.returns-then-node_ready
 returns-then-node_ready c = record { answer = sym (sym c.loop-i.invariant.2 ∙ every_stop _ _ _ c.loop-i-test.true refl (not_is c.node_ready.ensures.ready c.if-node_ready.true)) }
