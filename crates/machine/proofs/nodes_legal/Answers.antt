@@ -1,15 +1,8 @@
 -- `machine::nodes_legal` meets its contract. Assumes nothing.
 use Rattle.graph.specs.Below.{every_go, every_stop, every_end}
-use native.Mathlib.Nat.{sub-zero}
 use native.Mathlib.Omega.{arith}
 use mathlib.Core.Path.{sym, ◌∙◌}
 use Rattle.machine.proofs.nodes_legal.Goals as goal
-
-pub loop-i-init : goal.loop-i-init
-loop-i-init c = (omega arith, c.wide-nodes.ensures.0, rw (sub-zero, c.wide-nodes.ensures.0))
-
-pub node_legal-requires : goal.node_legal-requires
-node_legal-requires c = (c.requires, omega arith)
 
 pub loop-i-preserved : goal.loop-i-preserved
 loop-i-preserved c = (omega arith, c.loop-i.invariant.1, sym (every_go _ _ _ c.loop-i-test.true c.node_legal.ensures.answer c.if-not-node_legal.false) ∙ c.loop-i.invariant.2)

@@ -2,16 +2,12 @@
 use Rattle.machine.proofs.Records.{wire_legal_is}
 use Rattle.graph.specs.Enough.{rows_right_lem}
 use Rattle.graph.specs.Below.{every_go, every_stop, every_end}
-use native.Mathlib.Nat.{sub-zero}
 use native.Mathlib.Omega.{arith}
 use mathlib.Core.Path.{sym, ◌∙◌}
 use Rattle.machine.proofs.wires_legal.Goals as goal
 
 pub wire_sorts-sorts-requires : goal.wire_sorts-sorts-requires
 wire_sorts-sorts-requires c = (c.requires.accepted.shape, rows_right_lem _ c.requires.accepted)
-
-pub loop-w-init : goal.loop-w-init
-loop-w-init c = (omega arith, c.wide-wires.ensures.0, rw (sub-zero, c.wide-wires.ensures.0))
 
 pub loop-w-preserved : goal.loop-w-preserved
 loop-w-preserved c = (omega arith, c.loop-w.invariant.1, sym (every_go _ _ _ c.loop-w-test.true (wire_legal_is _ _ _ _ (c.wire_sorts-sorts.ensures c.loop-w.w) c.token_legal.ensures.answer) c.if-not-token_legal.false) ∙ c.loop-w.invariant.2)
