@@ -2,22 +2,10 @@
 use Prim.Native.Nat.{ℕ}
 use lib.ListN.{length, drop}
 use Rattle.sheet.specs.Reader.{bad}
-use mathlib.Core.Path.{◌≡◌, refl, sym, ap, ◌∙◌}
+use mathlib.Core.Path.{◌≡◌, sym, ap, ◌∙◌}
 use native.Mathlib.Omega.{arith}
 use Rattle.sheet_read.proofs.Bytes.{stops, same, fitting, digits_end, digits_stop, digits_go}
 use Rattle.sheet_read.proofs.digits.Goals as goal
-
-pub loop-p-init : goal.loop-p-init
-loop-p-init c = (c.requires.1, refl)
-
-pub overflow_mul-v : goal.overflow_mul-v
-overflow_mul-v c = let f = fitting c.wide-b.result c.loop-p.v c.args.most (sym c.goes_on.ensures ∙ c.if-not-goes_on.false) in let z = c.ranges.most in omega arith
-
-pub overflow_sub-v : goal.overflow_sub-v
-overflow_sub-v c = (fitting c.wide-b.result c.loop-p.v c.args.most (sym c.goes_on.ensures ∙ c.if-not-goes_on.false)).0
-
-pub overflow_add-v : goal.overflow_add-v
-overflow_add-v c = let f = fitting c.wide-b.result c.loop-p.v c.args.most (sym c.goes_on.ensures ∙ c.if-not-goes_on.false) in let z = c.ranges.most in omega arith
 
 pub loop-p-preserved : goal.loop-p-preserved
 loop-p-preserved c = let f = sym c.goes_on.ensures ∙ c.if-not-goes_on.false in let v = c.loop-p.invariant in

@@ -1,11 +1,8 @@
 -- `sheet_read::fixed` meets its contract. Invariant: the bytes due from i on decide, at p, what is read. Assumes nothing.
-use mathlib.Core.Path.{refl, sym, ◌∙◌}
+use mathlib.Core.Path.{sym, ◌∙◌}
 use native.Mathlib.Omega.{arith}
 use Rattle.sheet_read.proofs.Bytes.{stops, reads as ends, fixed_short, fixed_other, fixed_go, fixed_all}
 use Rattle.sheet_read.proofs.fixed.Goals as goal
-
-pub loop-due-init : goal.loop-due-init
-loop-due-init c = (c.requires, refl)
 
 pub returns-then-text-p : goal.returns-then-text-p
 returns-then-text-p c = let v = c.loop-due.invariant in stops v.0 (sym v.1 ∙ fixed_short _ _ _ _ _ c.loop-due-test.true c.if-text-p.true)

@@ -8,8 +8,5 @@ pub returns-in_err-start : goal.returns-in_err-start
 returns-in_err-start c = let p = err_from_is_err_and c.from_residual.result c.from_residual.ensures.1 in
     rw (p.1, p.2) (line_no_key c.args.text.now c.args.at c.args.k c.in_err-start.ensures tt)
 
-pub number-requires : goal.number-requires
-number-requires c = c.in_ok-start.ensures.inside
-
 pub returns : goal.returns
 returns c = line_number c.args.text.now c.args.at c.args.k c.in_ok-start.ensures refl c.number.ensures

@@ -12,19 +12,9 @@ pub returns-in_err-first : goal.returns-in_err-first
 returns-in_err-first c = let p = err_from_is_err_and c.from_residual.result c.from_residual.ensures.1 in
     rw (p.1, p.2) (row_no_start c.args.text.now c.args.at c.args.r _ _ _ c.in_err-first.ensures tt)
 
-pub kind_at-requires : goal.kind_at-requires
-kind_at-requires c = c.in_ok-first.ensures.inside
-
 pub returns-in_err-kind : goal.returns-in_err-kind
 returns-in_err-kind c = let p = err_from_is_err_and c.from_residual-in_err-kind.result c.from_residual-in_err-kind.ensures.1 in
     rw (p.1, p.2) (row_no_kind c.args.text.now c.args.at c.args.r _ _ _ c.in_ok-first.ensures refl c.in_err-kind.ensures tt)
-
-pub words-requires : goal.words-requires
-words-requires c = let u = c.used_words-used.ensures.1 in let h = c.requires.1 in
-    (c.in_ok-kind.ensures.inside, u, rw (length-set c.args.out.now c.args.to c.in_ok-kind.kind.value) (omega arith))
-
-pub shape_of-out-in_err-last : goal.shape_of-out-in_err-last
-shape_of-out-in_err-last c = c.words.auto.out ∙ length-set c.args.out.now c.args.to c.in_ok-kind.kind.value
 
 pub returns-in_err-last : goal.returns-in_err-last
 returns-in_err-last c = let p = err_from_is_err_and c.from_residual-in_err-last.result c.from_residual-in_err-last.ensures.1 in

@@ -2,17 +2,8 @@
 use Rattle.std.proofs.lemmas.Result.{err_from_is_err_and}
 use mathlib.Core.Path.{refl, ◌∙◌}
 use native.Mathlib.Omega.{arith}
-use Rattle.sheet_read.proofs.Tables.{rows_begin, rows_on, rows_stop, rows_end}
+use Rattle.sheet_read.proofs.Tables.{rows_on, rows_stop, rows_end}
 use Rattle.sheet_read.proofs.rows.Goals as goal
-
-pub loop-r-init : goal.loop-r-init
-loop-r-init c = (c.requires.0, refl, rows_begin _ _ _)
-
-pub row-requires : goal.row-requires
-row-requires c = let v = c.loop-r.invariant in let h = c.loop-r-test.true in let q = c.requires.2 in let n = v.1 in (v.0, omega arith)
-
-pub shape_of-out-in_err-p : goal.shape_of-out-in_err-p
-shape_of-out-in_err-p c = c.row.auto.out ∙ c.loop-r.invariant.1
 
 pub returns-in_err-p : goal.returns-in_err-p
 returns-in_err-p c = let v = c.loop-r.invariant in let p = err_from_is_err_and c.from_residual.result c.from_residual.ensures.1 in
@@ -21,9 +12,6 @@ returns-in_err-p c = let v = c.loop-r.invariant in let p = err_from_is_err_and c
 pub loop-r-preserved : goal.loop-r-preserved
 loop-r-preserved c = let v = c.loop-r.invariant in
     (c.in_ok-p.ensures.inside, c.row.auto.out ∙ v.1, rows_on c.args.text.now c.loop-r.p v.2 c.loop-r-test.true c.in_ok-p.ensures refl)
-
-pub shape_of-out : goal.shape_of-out
-shape_of-out c = c.loop-r.invariant.1
 
 pub returns : goal.returns
 returns c = let v = c.loop-r.invariant in (rows_end c.args.text.now c.loop-r.p v.2 c.loop-r-test.false c.loop-r.auto.r-end v.0, c.requires.1)

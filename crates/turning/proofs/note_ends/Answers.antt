@@ -15,9 +15,6 @@ kind_at-kind-requires c = row_asked _ c.requires.0 _ (omega (arith, c.loop-r-tes
 pub body_after-next-requires : goal.body_after-next-requires
 body_after-next-requires c = (λ e. end_inside _ c.requires.0 _ _ _ c.loop-r.invariant (omega (arith, c.loop-r-test.true, c.requires.1)) (sym c.kind_at-kind.ensures ∙ e), c.loop-r.invariant.long)
 
-pub offset_bounds-notes-note_at : goal.offset_bounds-notes-note_at
-offset_bounds-notes-note_at c = omega (arith, note_inside _ c.requires.0 _ _ _ c.loop-r.invariant (omega (arith, c.loop-r-test.true, c.requires.1)) _ _ c.kind_at-kind.ensures c.note_at.ensures)
-
 pub bounds-notes-note_at : goal.bounds-notes-note_at
 bounds-notes-note_at c = omega (arith, note_inside _ c.requires.0 _ _ _ c.loop-r.invariant (omega (arith, c.loop-r-test.true, c.requires.1)) _ _ c.kind_at-kind.ensures c.note_at.ensures, c.loop-r.invariant.long)
 

@@ -1,5 +1,5 @@
 use native.Mathlib.Omega.{arith}
-use Rattle.turning.proofs.Rows.{op_names, row_asked, set_so}
+use Rattle.turning.proofs.Rows.{op_names, row_asked}
 use Rattle.turning.proofs.op_row.Goals as goal
 
 pub named-x-requires : goal.named-x-requires
@@ -13,6 +13,3 @@ word_at-requires c = let q = row_asked _ c.requires.0 _ c.requires.1 in (q.0, q.
 
 pub set_row-requires : goal.set_row-requires
 set_row-requires c = ((row_asked _ c.requires.0 _ c.requires.1).1, c.requires.3)
-
-pub returns : goal.returns
-returns c = set_so c.args.words.now _ _ _ _ c.set_row.ensures (rw (c.operate-w.ensures.answer, c.word_at.ensures, c.named-x.ensures, c.named-y.ensures))

@@ -1,4 +1,4 @@
-use Rattle.turning.proofs.Rows.{pick_names, row_asked, set_so}
+use Rattle.turning.proofs.Rows.{pick_names, row_asked}
 use Rattle.turning.proofs.pick_row.Goals as goal
 
 pub named-f-requires : goal.named-f-requires
@@ -12,6 +12,3 @@ named-y-requires c = (c.requires.0, (pick_names _ c.requires.0 _ c.requires.1 c.
 
 pub set_row-requires : goal.set_row-requires
 set_row-requires c = ((row_asked _ c.requires.0 _ c.requires.1).1, c.requires.3)
-
-pub returns : goal.returns
-returns c = set_so c.args.words.now _ _ _ _ c.set_row.ensures (rw (c.choose.ensures, c.named-f.ensures, c.named-x.ensures, c.named-y.ensures))

@@ -14,8 +14,5 @@ put_result-k-requires c = (c.requires.0, omega (arith, c.loop-r-test.true, c.req
 pub loop-r-preserved : goal.loop-r-preserved
 loop-r-preserved c = (one_counted _ _ _ _ _ _ c.loop-r.invariant.0 refl c.put_result-k.ensures.0, c.put_result-k.auto.results ∙ c.loop-r.invariant.1, one_result _ _ _ _ _ _ _ _ c.loop-r-test.true c.put_result-k.ensures.0 c.put_result-k.ensures.1 ∙ c.loop-r.invariant.2)
 
-pub shape_of-results : goal.shape_of-results
-shape_of-results c = c.loop-r.invariant.1
-
 pub returns : goal.returns
 returns c = sym (no_results_left _ _ _ _ _ _ c.loop-r-test.false) ∙ c.loop-r.invariant.2

@@ -10,6 +10,3 @@ named-step-requires c = (c.requires.0, (for_names _ c.requires.0 _ c.requires.1 
 
 pub word_at-requires : goal.word_at-requires
 word_at-requires c = let q = row_asked _ c.requires.0 _ c.requires.1 in (q.0, q.1, omega arith)
-
-pub returns : goal.returns
-returns c = rw (c.update.ensures.answer, c.word_at.ensures, c.named-step.ensures, c.word_of-index.ensures)
