@@ -43,8 +43,7 @@ use Rattle.engine.specs.Answers.{PlainAnswer}
 use Rattle.engine.specs.Against.{Fit, results_in, fit_is_not_refused}
 use Rattle.engine.proofs.Against.{ended_is_the_reading, the_reading_is_ended, zero_step_is_the_reading, the_reading_is_a_zero_step, spent_is_the_rest, too_few_are_spent, endless_is_spent, refused_is_refused}
 use Rattle.engine.specs.Cases.{five_turns_end}
-use Rattle.engine.specs.declared.Plain.{Plain}
-use Rattle.engine.specs.declared.Plain.TheVariants.{Refused, Ended, ZeroStep, Spent}
+use Rattle.engine.specs.Plain.{Plain, Refused, Ended, ZeroStep, Spent}
 use Rattle.lowered.specs.Lower.{lowered_words}
 use Rattle.lowered.specs.Room.{check_answer, lower_answer}
 use Rattle.laid.specs.Answers.{passed_check}
