@@ -10,7 +10,7 @@ ghost use Rattle.table.specs.Scan.{body_of};
 ghost use Rattle.table.specs.Bodies.{end_of, first_of};
 ghost use Rattle.table.specs.Right.{TableRight};
 ghost use Rattle.reading.specs.Reading.{set_row, choose, first_words, results_from, turn, leave, named, next_named, arg_named};
-ghost use Rattle.turning.specs.Words.{env_of, Long, Names, placed, copied, Source, Aside, Copies, LoopAt, Ends, body_after, note_at, note_of, one_more};
+ghost use Rattle.turning.specs.Words.{env_of, Names, placed, copied, Source, Aside, Copies, LoopAt, Ends, body_after, note_at, note_of, one_more};
 
 use table::Kind;
 
@@ -25,16 +25,16 @@ pub fn word_of(words: &[u32], r: u32) -> u32
 }
 
 // The word that word k of row r names.
-pub fn named(table: &[u32], words: &[u32], r: u32, k: u32) -> u32
-    requires { TableRight table.now × Names table.now r k × Long words.now }
+pub fn named(table: &[u32], words: &[u32; 512], r: u32, k: u32) -> u32
+    requires { TableRight table.now × Names table.now r k }
     ensures { result ≡ env_of words.now (word table.now r k) }
 {
     word_of(words, table::word_at(table, r, k))
 }
 
 // Row r has this word from now on.
-pub fn set_row(words: &mut [u32], r: u32, word: u32)
-    requires { (r < 512) × Long words.old }
+pub fn set_row(words: &mut [u32; 512], r: u32, word: u32)
+    requires { r < 512 }
     ensures { env_of words.new ≡ set_row r word (env_of words.old) }
 {
     words[r as usize] = word;
@@ -42,8 +42,8 @@ pub fn set_row(words: &mut [u32], r: u32, word: u32)
 
 // The rows that compute.
 
-pub fn op_row(table: &[u32], words: &mut [u32], r: u32)
-    requires { TableRight table.now × (r < size table.now) × (kind_at table.now r ≡ 2) × Long words.old }
+pub fn op_row(table: &[u32], words: &mut [u32; 512], r: u32)
+    requires { TableRight table.now × (r < size table.now) × (kind_at table.now r ≡ 2) }
     ensures { env_of words.new ≡ set_row r (operate (word table.now r 1) (env_of words.old (word table.now r 2)) (env_of words.old (word table.now r 3))) (env_of words.old) }
 {
     let x = named(table, words, r, 2);
@@ -59,8 +59,8 @@ fn choose(flag: u32, x: u32, y: u32) -> u32
     if flag == 0 { y } else { x }
 }
 
-pub fn pick_row(table: &[u32], words: &mut [u32], r: u32)
-    requires { TableRight table.now × (r < size table.now) × (kind_at table.now r ≡ 3) × Long words.old }
+pub fn pick_row(table: &[u32], words: &mut [u32; 512], r: u32)
+    requires { TableRight table.now × (r < size table.now) × (kind_at table.now r ≡ 3) }
     ensures { env_of words.new ≡ set_row r (choose (env_of words.old (word table.now r 1)) (env_of words.old (word table.now r 2)) (env_of words.old (word table.now r 3))) (env_of words.old) }
 {
     let f = named(table, words, r, 1);
@@ -180,8 +180,8 @@ pub fn first_of(table: &[u32], l: u32) -> u32
 
 // All ARGs together, or all NEXTs: their words are put aside before the first of them changes.
 
-fn put_aside(table: &[u32], words: &[u32], aside: &mut [u32], from: u32, k: u32)
-    requires { TableRight table.now × Source table.now from k × Long words.now × Long aside.old }
+fn put_aside(table: &[u32], words: &[u32; 512], aside: &mut [u32; 512], from: u32, k: u32)
+    requires { TableRight table.now × Source table.now from k }
     ensures { Aside table.now from k words.now aside.new }
 {
     for j in 0..k {
@@ -189,8 +189,8 @@ fn put_aside(table: &[u32], words: &[u32], aside: &mut [u32], from: u32, k: u32)
     }
 }
 
-fn put_back(words: &mut [u32], aside: &[u32], to: u32, k: u32)
-    requires { (to + k ≤ 512) × Long words.old × Long aside.now }
+fn put_back(words: &mut [u32; 512], aside: &[u32; 512], to: u32, k: u32)
+    requires { to + k ≤ 512 }
     ensures { env_of words.new ≡ placed to k (env_of aside.now) (env_of words.old) }
 {
     for j in 0..k {
@@ -198,8 +198,8 @@ fn put_back(words: &mut [u32], aside: &[u32], to: u32, k: u32)
     }
 }
 
-fn copy(table: &[u32], words: &mut [u32], aside: &mut [u32], from: u32, to: u32, k: u32)
-    requires { TableRight table.now × Copies table.now from to k × Long words.old × Long aside.old }
+fn copy(table: &[u32], words: &mut [u32; 512], aside: &mut [u32; 512], from: u32, to: u32, k: u32)
+    requires { TableRight table.now × Copies table.now from to k }
     ensures { env_of words.new ≡ copied table.now from to k (env_of words.old) }
 {
     put_aside(table, words, aside, from, k);
@@ -210,13 +210,13 @@ fn copy(table: &[u32], words: &mut [u32], aside: &mut [u32], from: u32, to: u32,
 
 pub fn first_turn(
     table: &[u32],
-    words: &mut [u32],
-    aside: &mut [u32],
+    words: &mut [u32; 512],
+    aside: &mut [u32; 512],
     l: u32,
     first: u32,
     index: u32,
 )
-    requires { LoopAt table.now l first × Long words.old × Long aside.old }
+    requires { LoopAt table.now l first }
     ensures { env_of words.new ≡ turn table.now l index (named table.now (env_of words.old)) (env_of words.old) }
 {
     copy(table, words, aside, l + 1, l + 1, first - (l + 1));
@@ -225,14 +225,14 @@ pub fn first_turn(
 
 pub fn next_turn(
     table: &[u32],
-    words: &mut [u32],
-    aside: &mut [u32],
+    words: &mut [u32; 512],
+    aside: &mut [u32; 512],
     l: u32,
     first: u32,
     end: u32,
     index: u32,
 )
-    requires { LoopAt table.now l first × (end ≡ end_of table.now l) × Long words.old × Long aside.old }
+    requires { LoopAt table.now l first × (end ≡ end_of table.now l) }
     ensures { env_of words.new ≡ turn table.now l index (next_named table.now (env_of words.old)) (env_of words.old) }
 {
     let k = first - (l + 1);
@@ -242,16 +242,30 @@ pub fn next_turn(
 
 // The loop is left: after its last turn the NEXTs keep what they name, with no turn they take what the ARGs name.
 
-pub fn leave(table: &[u32], words: &mut [u32], aside: &mut [u32], l: u32, first: u32, end: u32)
-    requires { LoopAt table.now l first × (end ≡ end_of table.now l) × Long words.old × Long aside.old }
+pub fn leave(
+    table: &[u32],
+    words: &mut [u32; 512],
+    aside: &mut [u32; 512],
+    l: u32,
+    first: u32,
+    end: u32,
+)
+    requires { LoopAt table.now l first × (end ≡ end_of table.now l) }
     ensures { env_of words.new ≡ leave table.now l (named table.now (env_of words.old)) (env_of words.old) }
 {
     let k = first - (l + 1);
     copy(table, words, aside, end - k, end - k, k);
 }
 
-pub fn pass_over(table: &[u32], words: &mut [u32], aside: &mut [u32], l: u32, first: u32, end: u32)
-    requires { LoopAt table.now l first × (end ≡ end_of table.now l) × Long words.old × Long aside.old }
+pub fn pass_over(
+    table: &[u32],
+    words: &mut [u32; 512],
+    aside: &mut [u32; 512],
+    l: u32,
+    first: u32,
+    end: u32,
+)
+    requires { LoopAt table.now l first × (end ≡ end_of table.now l) }
     ensures { env_of words.new ≡ leave table.now l (arg_named table.now (env_of words.old)) (env_of words.old) }
 {
     let k = first - (l + 1);
@@ -261,8 +275,8 @@ pub fn pass_over(table: &[u32], words: &mut [u32], aside: &mut [u32], l: u32, fi
 // The results.
 
 // The result of row r, where it is one, at place k; the place of the next one is answered.
-fn put_result(table: &[u32], words: &[u32], results: &mut [u32], r: u32, k: usize) -> usize
-    requires { TableRight table.now × (r < size table.now) × Long words.now × (k ≤ 512) × (kind_at table.now r ≡ 8 → k < length results.old) }
+fn put_result(table: &[u32], words: &[u32; 512], results: &mut [u32], r: u32, k: usize) -> usize
+    requires { TableRight table.now × (r < size table.now) × (k ≤ 512) × (kind_at table.now r ≡ 8 → k < length results.old) }
     ensures { (result ≡ one_more (kind_at table.now r) 8 k) × (results.new ≡ cond (eqb (kind_at table.now r) 8) (set results.old k (env_of words.now (word table.now r 1))) results.old) }
 {
     if table::kind_at(table, r) == Kind::Out as u32 {
@@ -272,8 +286,8 @@ fn put_result(table: &[u32], words: &[u32], results: &mut [u32], r: u32, k: usiz
     k
 }
 
-pub fn put_results(table: &[u32], n: u32, words: &[u32], results: &mut [u32])
-    requires { TableRight table.now × (n ≡ size table.now) × Long words.now × (rows_of 8 table.now n ≤ length results.old) }
+pub fn put_results(table: &[u32], n: u32, words: &[u32; 512], results: &mut [u32])
+    requires { TableRight table.now × (n ≡ size table.now) × (rows_of 8 table.now n ≤ length results.old) }
     ensures { results.new ≡ sets results.old 0 (results_from n table.now (env_of words.now) 0) }
 {
     let mut k: usize = 0;

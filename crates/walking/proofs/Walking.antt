@@ -22,12 +22,7 @@ use Rattle.turning.specs.Words.{env_of, LoopAt}
 use Rattle.std.specs.Prelude.{Ok, Err}
 use Rattle.walking.specs.declared.Halt.{Halt}
 use Rattle.walking.specs.declared.Halt.TheVariants.{ZeroStep, Spent as HaltSpent}
-use Rattle.walking.specs.Walks.{Went, On, Zero, Ready, Moves, Walk, Faults, Dues, Walked, Rowed, Turned}
-
--- ---- what is ready stays so
-pub still_ready : {t : List ℕ} {n : ℕ} {notes words words₁ aside aside₁ : List ℕ} → Ready t n notes words aside → length words₁ ≡ length words → length aside₁ ≡ length aside
-    → Ready t n notes words₁ aside₁
-still_ready r a b = record { right = r.right; rows = r.rows; ends = r.ends; words_long = a ∙ r.words_long; aside_long = b ∙ r.aside_long }
+use Rattle.walking.specs.Walks.{Went, On, Zero, Moves, Walk, Faults, Dues, Walked, Rowed, Turned}
 
 -- ---- behind one another
 pub stays : (t : List ℕ) (i : ℕ) (e : List ℕ) (a : ℕ) → Moves t i e a i a e

@@ -16,18 +16,16 @@ use Rattle.structure.specs.Behind.{loops_at}
 use Rattle.reading.specs.Reading.{Opening, State, at, zero_step, stop, step}
 use Rattle.reading.specs.Within.{turns_made, Reach, Due}
 use Rattle.reading.specs.Standing.{Standing}
-use Rattle.turning.specs.Words.{env_of, Long, Ends}
+use Rattle.turning.specs.Words.{env_of, Ends}
 use Rattle.walking.specs.declared.At.{At}
 use Rattle.walking.specs.declared.Halt.{Halt}
 use Rattle.walking.specs.declared.Halt.TheVariants.{ZeroStep, Spent as HaltSpent}
 
--- a table that passes, its row count, its ENDs, and two lists long enough
-pub record Ready (t : List ℕ) (n : ℕ) (notes words aside : List ℕ) : Type 0 where
+-- a table that passes, its row count and its ENDs
+pub record Ready (t : List ℕ) (n : ℕ) (notes : List ℕ) : Type 0 where
   pub right : TableRight t
   pub rows : n ≡ size t
   pub ends : Ends t notes
-  pub words_long : Long words
-  pub aside_long : Long aside
 
 -- row i, words e, a turns left; then row p, words e₁, l turns left
 pub record Comes (t : List ℕ) (i : ℕ) (e : List ℕ) (a p l : ℕ) (e₁ : List ℕ) (os : List Opening) : Type 0 where

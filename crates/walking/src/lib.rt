@@ -6,7 +6,7 @@ ghost use Rattle.word.specs.Words.{condition, update};
 ghost use Rattle.table.specs.Rows.{kind_at, word, size};
 ghost use Rattle.table.specs.Bodies.{end_of, first_of};
 ghost use Rattle.table.specs.Right.{TableRight};
-ghost use Rattle.turning.specs.Words.{env_of, Long, Ends, LoopAt};
+ghost use Rattle.turning.specs.Words.{env_of, Ends, LoopAt};
 ghost use Rattle.walking.specs.Walks.{Ready, Walked, Rowed, Turned};
 
 use table::Kind;
@@ -34,8 +34,8 @@ pub enum Halt {
 }
 
 // The condition of the loop at row l for index x.
-fn holds(table: &[u32], words: &[u32], l: u32, x: u32) -> u32
-    requires { TableRight table.now × (l < size table.now) × (kind_at table.now l ≡ 4) × Long words.now }
+fn holds(table: &[u32], words: &[u32; 512], l: u32, x: u32) -> u32
+    requires { TableRight table.now × (l < size table.now) × (kind_at table.now l ≡ 4) }
     ensures { result ≡ condition (word table.now l 5) x (env_of words.now (word table.now l 3)) }
 {
     word::condition(
@@ -46,8 +46,8 @@ fn holds(table: &[u32], words: &[u32], l: u32, x: u32) -> u32
 }
 
 // Its index after one more turn.
-fn index_after(table: &[u32], words: &[u32], l: u32) -> u32
-    requires { TableRight table.now × (l < size table.now) × (kind_at table.now l ≡ 4) × Long words.now }
+fn index_after(table: &[u32], words: &[u32; 512], l: u32) -> u32
+    requires { TableRight table.now × (l < size table.now) × (kind_at table.now l ≡ 4) }
     ensures { result ≡ update (word table.now l 4) (env_of words.now l) (env_of words.now (word table.now l 2)) }
 {
     let index = turning::word_of(words, l);
@@ -64,8 +64,14 @@ fn end_of(table: &[u32], notes: &[u32; 512], l: u32) -> u32
 
 // One row that is no END.
 #[cycle(body_laps_row_turns)]
-fn row(rows: Rows, words: &mut [u32], aside: &mut [u32], i: u32, left: u64) -> Result<At, Halt>
-    requires { (i < rows.size) × (kind_at rows.table.now i ≡ 7 → ⊥) × Ready rows.table.now rows.size rows.ends.now words.old aside.old }
+fn row(
+    rows: Rows,
+    words: &mut [u32; 512],
+    aside: &mut [u32; 512],
+    i: u32,
+    left: u64,
+) -> Result<At, Halt>
+    requires { (i < rows.size) × (kind_at rows.table.now i ≡ 7 → ⊥) × Ready rows.table.now rows.size rows.ends.now }
     ensures { Rowed rows.entry.table.now i words.old left result words.new }
 {
     let kind = table::kind_at(rows.table, i);
@@ -88,12 +94,12 @@ fn row(rows: Rows, words: &mut [u32], aside: &mut [u32], i: u32, left: u64) -> R
 #[cycle(body_laps_row_turns)]
 pub fn body(
     rows: Rows,
-    words: &mut [u32],
-    aside: &mut [u32],
+    words: &mut [u32; 512],
+    aside: &mut [u32; 512],
     from: u32,
     allow: u64,
 ) -> Result<At, Halt>
-    requires { (from ≤ rows.size) × Ready rows.table.now rows.size rows.ends.now words.old aside.old }
+    requires { (from ≤ rows.size) × Ready rows.table.now rows.size rows.ends.now }
     ensures { Walked rows.entry.table.now from words.old allow result words.new }
 {
     let mut i = from;
@@ -113,13 +119,13 @@ pub fn body(
 #[cycle(body_laps_row_turns)]
 fn turns(
     rows: Rows,
-    words: &mut [u32],
-    aside: &mut [u32],
+    words: &mut [u32; 512],
+    aside: &mut [u32; 512],
     l: u32,
     first: u32,
     allow: u64,
 ) -> Result<At, Halt>
-    requires { LoopAt rows.table.now l first × Ready rows.table.now rows.size rows.ends.now words.old aside.old }
+    requires { LoopAt rows.table.now l first × Ready rows.table.now rows.size rows.ends.now }
     ensures { Turned rows.entry.table.now l first words.old allow result words.new }
 {
     let mut left = allow;
@@ -143,8 +149,14 @@ fn turns(
 
 // The loop at row l.
 #[cycle(body_laps_row_turns)]
-fn laps(rows: Rows, words: &mut [u32], aside: &mut [u32], l: u32, allow: u64) -> Result<At, Halt>
-    requires { (l < rows.size) × (kind_at rows.table.now l ≡ 4) × Ready rows.table.now rows.size rows.ends.now words.old aside.old }
+fn laps(
+    rows: Rows,
+    words: &mut [u32; 512],
+    aside: &mut [u32; 512],
+    l: u32,
+    allow: u64,
+) -> Result<At, Halt>
+    requires { (l < rows.size) × (kind_at rows.table.now l ≡ 4) × Ready rows.table.now rows.size rows.ends.now }
     ensures { Rowed rows.entry.table.now l words.old allow result words.new }
 {
     if turning::named(rows.table, words, l, 2) == 0 {

@@ -1,5 +1,5 @@
-use Rattle.turning.specs.Words.{Long, Aside}
+use Rattle.turning.specs.Words.{Aside}
 use Rattle.turning.proofs.put_aside.Given as goal
 
 abbrev pub invariant-loop-j : goal.invariant-loop-j
-invariant-loop-j l = Long l.aside × Aside l.table l.from l.j l.words l.aside
+invariant-loop-j l = Aside l.table l.from l.j l.words l.aside

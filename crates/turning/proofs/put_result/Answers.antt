@@ -6,4 +6,4 @@ pub kind_at-requires : goal.kind_at-requires
 kind_at-requires c = row_asked _ c.requires.0 _ c.requires.1
 
 pub named-requires : goal.named-requires
-named-requires c = (c.requires.0, out_names _ c.requires.0 _ c.requires.1 (sym c.kind_at.ensures ∙ c.if-kind_at.true), c.requires.2)
+named-requires c = (c.requires.0, out_names _ c.requires.0 _ c.requires.1 (sym c.kind_at.ensures ∙ c.if-kind_at.true))
