@@ -7,7 +7,7 @@
 --   fire_refusal, fire_answer, fire_state
 --   fired_number, fired_flag            the number for each case of the answer of fire; fire_number, fire_flag: of the answer itself
 --   FireAnswer, LoadAnswer            what fire and load promise
---   Fit, Given                        what the inner functions rely on
+--   Given                             what loading relies on
 --
 -- 'It leaves every lent word as it was': each of the states is the lent one where its number is not 0. Of a refusal 'its row is 0 for 11 to 18', so the entries of
 -- graphs answer a number alone, and say no row.
@@ -23,7 +23,7 @@ use Rattle.graph.specs.Graph.{node_count}
 use Rattle.graph.specs.Refusal.{has_shape, rows_right, wires_below, read_once, sorts_agree, graph_refusal}
 use Rattle.state.specs.Net.{fire, is_ready, or_else, net_of}
 use Rattle.graph.specs.Accepted.{Accepted}
-use Rattle.state.specs.Legal.{state_length, right_length, legal}
+use Rattle.state.specs.Legal.{right_length, legal}
 use Rattle.state.specs.Load.{input_count, loaded}
 use Rattle.machine.specs.declared.Fired.{Fired}
 use Rattle.machine.specs.declared.Fired.TheVariants.{NotReady, Done}
@@ -173,11 +173,6 @@ fire_answers g s i r exit e h =
 pub record LoadAnswer (g inputs s : List ℕ) (r : ℕ) (exit : List ℕ) : Type 0 where
   pub number : r ≡ load_refusal g inputs s
   pub state : exit ≡ load_state g inputs s
-
--- what the inner checks of a state may rely on: the graph is accepted, and the state has its length
-pub record Fit (g : List ℕ) (len : ℕ) : Type 0 where
-  pub accepted : Accepted g
-  pub size : len ≡ state_length g
 
 -- what loading may rely on: the graph is accepted, and there is one word per input
 pub record Given (g : List ℕ) (len : ℕ) : Type 0 where

@@ -1,4 +1,4 @@
-// Given a graph and firing one node, on lent words that anybody may have typed, cut short or altered.
+// Loading a graph and firing one node, on lent words that anybody may have typed, cut short or altered.
 #![tactic(auto)]
 
 ghost use Rattle.std.specs.Prelude.{◌≡◌, ◌<◌, length};
@@ -11,7 +11,7 @@ ghost use Rattle.graph.specs.Refusal.{graph_refusal, Shaped};
 ghost use Rattle.state.specs.Legal.{state_length, legal_token, legal_kind, legal_wire, legal_node, legal};
 ghost use Rattle.state.specs.Load.{input_count, start_word, loaded};
 ghost use Rattle.state.specs.Loaded.{loaded_at};
-ghost use Rattle.machine.specs.Entries.{Fit, Given, state_refusal, LoadAnswer, FireAnswer};
+ghost use Rattle.machine.specs.Entries.{state_refusal, LoadAnswer, FireAnswer};
 
 use refusal::Refusal;
 use step::Kind;
