@@ -1,5 +1,5 @@
 // The parts of a sheet, written into lent bytes: what the writer writes, and what the reader holds its text against.
-// Each answers the place behind what it wrote.
+// Each answers the place behind what it wrote. The place stays beside the bytes: with an `ArrayVec<u8, N>` for both, each call owes that the page's size fits.
 #![tactic(auto)]
 
 ghost use Rattle.std.specs.Prelude.{◌≡◌, ◌+◌, ◌≤◌, ◌++◌, length};

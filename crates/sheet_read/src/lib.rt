@@ -64,12 +64,6 @@ struct Stuck {
     at: usize,
 }
 
-fn wide(b: u8) -> u32
-    ensures { (result ≡ b) × (result < 256) }
-{
-    b as u32
-}
-
 // The bytes of `key`, which stand for v.
 fn fixed(text: &[u8], at: usize, key: &[u8], v: u32) -> Result<Part, Stuck>
     requires { at ≤ length text.now }
@@ -114,7 +108,7 @@ fn digits(text: &[u8], at: usize, first: u32, most: u32) -> Result<Part, Stuck>
 {
     let mut v = first;
     for p in at..text.len() {
-        let b = wide(text[p]);
+        let b = u32::from(text[p]);
         if !goes_on(b, v, most) {
             return fixed(text, p, b"\n", v);
         }
@@ -147,7 +141,7 @@ fn number(text: &[u8], at: usize, least: u32, most: u32) -> Result<Part, Stuck>
     if text.len() <= at {
         return Err(Stuck { at });
     }
-    let b = wide(text[at]);
+    let b = u32::from(text[at]);
     let next = at + 1;
     if begins(b, least, most) {
         if b == ZERO {
@@ -168,12 +162,6 @@ fn named(text: &[u8], at: usize, kind: u32) -> Result<Part, Stuck>
     fixed(text, at, &line[..n], kind)
 }
 
-fn farther(p: usize, q: usize) -> usize
-    ensures { result ≡ cond (leb q p) p q }
-{
-    if q <= p { p } else { q }
-}
-
 // The name of a kind. Where there is none, the text can go on as far as the name that goes farthest.
 fn kind_at(text: &[u8], at: usize) -> Result<Part, Stuck>
     requires { at ≤ length text.now }
@@ -183,7 +171,7 @@ fn kind_at(text: &[u8], at: usize) -> Result<Part, Stuck>
     for kind in 0..table::KINDS {
         match named(text, at, kind) {
             Ok(part) => return Ok(part),
-            Err(stuck) => far = farther(far, stuck.at),
+            Err(stuck) => far = far.max(stuck.at),
         }
     }
     Err(Stuck { at: far })

@@ -9,11 +9,11 @@ returns-then-text-at c = stops (omega arith) (number_end c.args.text.now _ _ _ c
 
 pub returns-then-b-eq-ZERO : goal.returns-then-b-eq-ZERO
 returns-then-b-eq-ZERO c = same c.fixed.ensures (omega arith)
-    (number_zero c.args.text.now c.args.least c.args.most c.args.at c.if-text-at.false c.wide-b.ensures.0 (sym c.begins.ensures ∙ c.if-begins.true) c.if-b-eq-ZERO.true)
+    (number_zero c.args.text.now c.args.least c.args.most c.args.at c.if-text-at.false c.from-b.ensures (sym c.begins.ensures ∙ c.if-begins.true) c.if-b-eq-ZERO.true)
 
 pub returns-then-begins : goal.returns-then-begins
 returns-then-begins c = same c.digits.ensures (omega arith)
-    (number_go c.args.text.now c.args.least c.args.most c.args.at c.if-text-at.false c.wide-b.ensures.0 (sym c.begins.ensures ∙ c.if-begins.true) c.if-b-eq-ZERO.false)
+    (number_go c.args.text.now c.args.least c.args.most c.args.at c.if-text-at.false c.from-b.ensures (sym c.begins.ensures ∙ c.if-begins.true) c.if-b-eq-ZERO.false)
 
 pub returns : goal.returns
-returns c = stops (omega arith) (number_none c.args.text.now c.args.least c.args.most c.args.at c.if-text-at.false c.wide-b.ensures.0 (sym c.begins.ensures ∙ c.if-begins.false))
+returns c = stops (omega arith) (number_none c.args.text.now c.args.least c.args.most c.args.at c.if-text-at.false c.from-b.ensures (sym c.begins.ensures ∙ c.if-begins.false))
