@@ -33,8 +33,7 @@ use Rattle.reading.specs.Within.{turns_made, Within, comes, spent, openings_of, 
 use Rattle.reading.proofs.Within.{one_within, within_is_read, read_is_within, spent_needs_more, spent_is_all, due_is_spent}
 use Rattle.reading.proofs.Bounded.{walk_is_bounded}
 use Rattle.engine.specs.Answers.{plain_refusal, plain_within, told_by, lent_by, plain_answer, plain_lent, PlainAnswer, plain_number, plain_row, plain_outcome, plain_turns}
-use Rattle.engine.specs.declared.Plain.{Plain}
-use Rattle.engine.specs.declared.Plain.TheVariants.{Refused, Ended, ZeroStep, Spent}
+use Rattle.engine.specs.Plain.{Plain, Refused, Ended, ZeroStep, Spent}
 use Rattle.engine.specs.Against.{Fit, fit_is_not_refused, not_refused_is_fit, answer_number, results_in, EndsSo, FaultsSo, SpentSo, one_word_each, results_first, TellsSo, tells_ended, tells_zero_step, tells_spent}
 
 module _ (t inputs lent : List ℕ) (A : ℕ) where

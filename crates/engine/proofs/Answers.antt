@@ -13,8 +13,7 @@ use Rattle.table.specs.Check.{Refusal, answer, table_refusal}
 use Rattle.table.specs.Right.{TableRight, number_0_is_right}
 use Rattle.structure.specs.Structure.{right_table_has_structure}
 use Rattle.engine.specs.Answers.{plain_refusal, plain_within, told_by, lent_by, plain_answer, plain_lent, PlainAnswer}
-use Rattle.engine.specs.declared.Plain.{Plain}
-use Rattle.engine.specs.declared.Plain.TheVariants.{Refused}
+use Rattle.engine.specs.Plain.{Plain, Refused}
 
 -- ---- the refusal, test by test
 module _ (t inputs : List ℕ) (lent : ℕ) where

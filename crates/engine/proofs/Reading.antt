@@ -21,7 +21,7 @@ use Rattle.turning.specs.Words.{env_of}
 use Rattle.walking.specs.Walks.{Faults, Dues, Walked}
 use Rattle.walking.specs.declared.Went.TheVariants.{On}
 use Rattle.engine.specs.Answers.{plain_within, told_by, lent_by}
-use Rattle.engine.specs.declared.Plain.TheVariants.{Ended, ZeroStep, Spent}
+use Rattle.engine.specs.Plain.{Ended, ZeroStep, Spent}
 
 fresh : turns_made [] ≡ 0
 unfolding turns_made

@@ -28,8 +28,7 @@ use Rattle.reading.specs.Outcome.{Reads}
 use Rattle.reading.specs.Results.{ended_has_a_word_each}
 use Rattle.reading.specs.Within.{turns_made, Within, comes, spent, openings_of, Due}
 use Rattle.engine.specs.Answers.{ROOM, INPUTS, plain_refusal, plain_within, told_by, plain_answer, plain_number, plain_row, plain_outcome, plain_turns}
-use Rattle.engine.specs.declared.Plain.{Plain}
-use Rattle.engine.specs.declared.Plain.TheVariants.{Refused}
+use Rattle.engine.specs.Plain.{Plain, Refused}
 
 -- ---- what is refused
 

@@ -15,8 +15,7 @@ use Rattle.table.specs.Counted.{rows_of}
 use Rattle.table.specs.Check.{Refusal, answer, table_refusal}
 use Rattle.reading.specs.Reading.{ended, zero_step, begin}
 use Rattle.reading.specs.Within.{turns_made, Within, comes, spent, read_within}
-use Rattle.engine.specs.declared.Plain.{Plain}
-use Rattle.engine.specs.declared.Plain.TheVariants.{Refused, Ended, ZeroStep, Spent}
+use Rattle.engine.specs.Plain.{Plain, Refused, Ended, ZeroStep, Spent}
 
 abbrev pub ROOM : ℕ
 ROOM = 10

@@ -13,7 +13,7 @@ use Rattle.table.specs.Cases.{row6, input, const, loop, arg, next, close, out, s
 use Rattle.reading.specs.Reading.{first_words, begin, results_from, turn, leave, step}
 use Rattle.reading.specs.Within.{turns_made, read_within}
 use Rattle.engine.specs.Answers.{plain_refusal, plain_within, plain_answer, plain_lent, PlainAnswer}
-use Rattle.engine.specs.declared.Plain.TheVariants.{Refused, Ended, ZeroStep, Spent}
+use Rattle.engine.specs.Plain.{Refused, Ended, ZeroStep, Spent}
 
 -- everything that an answer computes with
 plain_computes : ℕ

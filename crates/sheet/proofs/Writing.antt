@@ -3,14 +3,13 @@
 -- `Left`: what a loop of writers keeps.
 -- Assumes nothing.
 use Prim.Native.Nat.{ℕ, suc, ◌+◌, ◌/◌, ◌%◌, ◌<◌, ◌≤◌}
-use mathlib.Core.List.{List, [], ◌∷◌, ◌++◌}
-use mathlib.Core.Path.{◌≡◌, sym, ap, ◌∙◌, subst}
+use mathlib.Core.List.{List, [], ◌∷◌, ◌++◌, append_assoc}
+use mathlib.Core.Path.{◌≡◌, sym, ap, ◌∙◌}
 use native.Mathlib.Omega.{arith}
-use native.Mathlib.Numerals.{add-one}
 use native.Mathlib.Nat.{add-zero, add-suc, suc-add}
-use lib.ListN.{get_or, length, set, take, length-append, get_or-eq_default}
-use lib.Seq.{sets, take-suc, length-take-le}
-use Rattle.table.specs.Rows.{RowKind, row_kinds, no_kind, name_of}
+use lib.ListN.{length, set, take, drop, length-append}
+use lib.Seq.{sets, sets-eq, drop-drop}
+use borrow.Rule.Slice.PartMut.{put_mid}
 use Rattle.sheet.specs.Sheet.{decimal, line_of, feed}
 use Rattle.sheet.specs.Decimal.{one_digit, more_digits}
 
@@ -31,10 +30,9 @@ module _ (l : List ℕ) (at v : ℕ) where
   put_more h q e f =
       (rw (more_digits v h q, e, f) (sets_append l at (decimal (v / 10)) ((48 + v % 10) ∷ [])), rw (more_digits v h q, f, length-append) (omega arith))
 
-module _ (l key : List ℕ) (at i : ℕ) where
-  pub bytes_go : {l₁ : List ℕ} → i < length key → l₁ ≡ sets l at (take i key) → set l₁ (at + i) (get_or key i 0) ≡ sets l at (take (i + 1) key)
-  bytes_go h e = let n = length-take-le i key (omega arith) in
-      rw (e, add-one i, take-suc key i 0 h, ← sets_append l at (take i key) (get_or key i 0 ∷ []), n)
+-- a part of a list that was overwritten whole
+pub part_written : (l xs : List ℕ) (at k : ℕ) {ys : List ℕ} → ys ≡ xs → k ≡ length xs → at + length xs ≤ length l → put_mid at k l ys ≡ sets l at xs
+part_written l xs at k e q h = rw (e, q, sets-eq xs l at h, drop-drop (length xs) at l) (sym (append_assoc (take at l) xs (drop (at + length xs) l)))
 
 -- What each writer promises: these bytes stand from here on, the rest stays, and the place behind them is answered.
 abbrev pub Put : List ℕ → ℕ → List ℕ → List ℕ → ℕ → Type 0
@@ -74,23 +72,3 @@ pub line_put : (l : List ℕ) (at : ℕ) (key value : List ℕ) {l₁ l₂ l₃ 
     → Put l at key l₁ p → Put l₁ p value l₂ q → Put l₂ q feed l₃ r → Put l at (line_of key value) l₃ r
 unfolding line_of
 line_put l at key value {l₁} {l₂} {l₃} {p} {q} {r} a b c = behind l at key (value ++ feed) a (behind l₁ p value feed b c)
-
--- a kind's name, said by the arm that it takes
-module _ (at kind : ℕ) {name : List ℕ} (e : name_of kind ≡ name) where
-  pub name_room : {n : ℕ} → at + length (name_of kind ++ feed) ≤ n → at + length (name ++ feed) ≤ n
-  name_room {n} h = subst (λ (x : List ℕ). at + length (x ++ feed) ≤ n) e h
-
-  pub name_put : (l : List ℕ) {l₁ : List ℕ} {p : ℕ} → Put l at (name ++ feed) l₁ p → Put l at (name_of kind ++ feed) l₁ p
-  name_put l {l₁} {p} h = subst (λ (x : List ℕ). Put l at (x ++ feed) l₁ p) (sym e) h
-
--- a number that is none of 0 to 8 has no name
-five : (k : ℕ) → (k ≡ 0 → ⊥) → (k ≡ 1 → ⊥) → (k ≡ 2 → ⊥) → (k ≡ 3 → ⊥) → (k ≡ 4 → ⊥) → 5 ≤ k
-five k a b c d e = omega arith
-
-nine : (k : ℕ) → 5 ≤ k → (k ≡ 5 → ⊥) → (k ≡ 6 → ⊥) → (k ≡ 7 → ⊥) → (k ≡ 8 → ⊥) → 9 ≤ k
-nine k h a b c d = omega arith
-
-pub no_name : (k : ℕ) → (k ≡ 0 → ⊥) → (k ≡ 1 → ⊥) → (k ≡ 2 → ⊥) → (k ≡ 3 → ⊥) → (k ≡ 4 → ⊥) → (k ≡ 5 → ⊥) → (k ≡ 6 → ⊥) → (k ≡ 7 → ⊥) → (k ≡ 8 → ⊥)
-    → name_of k ≡ []
-no_name k n0 n1 n2 n3 n4 n5 n6 n7 n8 =
-    ap (λ (u : RowKind). u.name) (get_or-eq_default row_kinds no_kind (nine k (five k n0 n1 n2 n3 n4) n5 n6 n7 n8))

@@ -3,9 +3,10 @@
 --   read_answer, words_after     read_sheet: its answer, and the lent words after it
 --   write_answer, bytes_after    write_sheet: its answer, and the lent bytes after it
 --   ReadAnswer, WriteAnswer    the promises of the two
+--   written_by                 how many words or bytes an answer says: none where it is a refusal
 --
 -- What the promises come to, with no word of a reader: `read_means` and `write_means` in Statements.antt. Assumes nothing.
-use Rattle.std.specs.Prelude.{ℕ, ◌-◌, cond, List, ◌≡◌, eqb, leb, length}
+use Rattle.std.specs.Prelude.{ℕ, ◌-◌, cond, List, ◌≡◌, eqb, leb, length, Result, Ok, Err}
 use Rattle.std.proofs.lemmas.List.Edits.{sets}
 use Rattle.table.specs.Rows.{size}
 use Rattle.table.specs.Check.{Refusal, answer}
@@ -17,6 +18,10 @@ ROOM = 10
 
 abbrev pub TEXT : ℕ
 TEXT = 19
+
+abbrev pub written_by : {E : Type 0} → Result ℕ E → ℕ
+written_by (Ok n) = n
+written_by (Err e) = 0
 
 -- a number, its offset or row, and how many words were written
 pub record SheetRead : Type 0 where

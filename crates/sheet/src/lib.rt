@@ -7,16 +7,15 @@ ghost use Rattle.std.proofs.lemmas.List.Edits.{sets};
 ghost use Rattle.table.specs.Rows.{name_of};
 ghost use Rattle.sheet.specs.Sheet.{decimal, line_of, feed, row_key, kind_key};
 
+use table::Kind;
+
 pub fn put_bytes(out: &mut [u8], at: usize, bytes: &[u8]) -> usize
     requires { at + length bytes.now ≤ length out.old }
     ensures { (out.new ≡ sets out.old at bytes.now) × (result ≡ at + length bytes.now) }
 {
-    let mut i: usize = 0;
-    while i < bytes.len() {
-        out[at + i] = bytes[i];
-        i += 1;
-    }
-    at + i
+    let end = at + bytes.len();
+    out[at..end].copy_from_slice(bytes);
+    end
 }
 
 // The digits of v.
@@ -53,20 +52,26 @@ pub fn put_start(out: &mut [u8], at: usize, r: u32) -> usize
 }
 
 // A kind's name and the line's end. A number that is no kind has no name.
+fn name_line(kind: u32) -> &'static [u8]
+    ensures { result.now ≡ name_of kind ++ feed }
+{
+    match Kind::try_from(kind) {
+        Ok(Kind::Input) => b"input\n",
+        Ok(Kind::Const) => b"const\n",
+        Ok(Kind::Op) => b"op\n",
+        Ok(Kind::Pick) => b"pick\n",
+        Ok(Kind::For) => b"for\n",
+        Ok(Kind::Arg) => b"arg\n",
+        Ok(Kind::Next) => b"next\n",
+        Ok(Kind::End) => b"end\n",
+        Ok(Kind::Out) => b"out\n",
+        Err(_) => b"\n",
+    }
+}
+
 pub fn put_name(out: &mut [u8], at: usize, kind: u32) -> usize
     requires { at + length (name_of kind ++ feed) ≤ length out.old }
     ensures { (out.new ≡ sets out.old at (name_of kind ++ feed)) × (result ≡ at + length (name_of kind ++ feed)) }
 {
-    match kind {
-        0 => put_bytes(out, at, b"input\n"),
-        1 => put_bytes(out, at, b"const\n"),
-        2 => put_bytes(out, at, b"op\n"),
-        3 => put_bytes(out, at, b"pick\n"),
-        4 => put_bytes(out, at, b"for\n"),
-        5 => put_bytes(out, at, b"arg\n"),
-        6 => put_bytes(out, at, b"next\n"),
-        7 => put_bytes(out, at, b"end\n"),
-        8 => put_bytes(out, at, b"out\n"),
-        _ => put_bytes(out, at, b"\n"),
-    }
+    put_bytes(out, at, name_line(kind))
 }

@@ -3,13 +3,13 @@
 --   too_few     the lent words are too few
 --   answered    the words were copied
 -- Assumes nothing.
-use Prim.Native.Nat.{ℕ, ◌-◌, ◌*◌, ◌/◌, ◌<◌, ◌≤◌}
-use mathlib.Core.List.{List}
+use Prim.Native.Nat.{ℕ, ◌+◌, ◌-◌, ◌*◌, ◌/◌, ◌<◌, ◌≤◌}
+use mathlib.Core.List.{List, ◌++◌}
 use mathlib.Core.Path.{◌≡◌, ◌∙◌}
 use native.Mathlib.Omega.{arith}
 use borrow.Author.Tests.{le-leb, lt-leb}
 use lib.ListN.{length, take, drop, replicate, length-drop, length-replicate}
-use lib.Seq.{sets}
+use lib.Seq.{sets, sets-eq}
 use Rattle.sheet.specs.Reader.{bad, read_sheet}
 use Rattle.sheet.specs.Answers.{ReadAnswer, read_answer, words_after}
 use Rattle.sheet_read.specs.declared.Took.{Took}
@@ -30,6 +30,10 @@ refused text lent {l} {after} {w} {p} {many} d e =
     let h : p ≤ length text = rw e at d.inside in
     let z : length text - (length text - p) ≡ p = omega arith in
     record { answer = rw (← f, length-drop p text, z); lent_words = rw (← f) }
+
+-- the front of a list that was overwritten
+pub front_written : (l xs : List ℕ) (k : ℕ) {ys : List ℕ} → ys ≡ xs → k ≡ length xs → length xs ≤ length l → ys ++ drop k l ≡ sets l 0 xs
+front_written l xs k e q h = let z : 0 + length xs ≡ length xs = omega arith in rw (e, q, sets-eq xs l 0 (omega arith), z)
 
 module _ (text lent : List ℕ) {l after : List ℕ} {w : Took} {n p : ℕ} (d : Stores text l 0 (6 * worth w) after (read_sheet text) w) (e : w ≡ Word n p) where
   pub filled : Filled text l 0 (6 * n) after (read_sheet text) p

@@ -1,35 +1,30 @@
 -- Words that are read and stored one behind the other, and the lines of a row's words.
---   clear_go, copy_go
 --   Going, going_begin, going_on, going_stops, going_ends    a loop that reads piece by piece
 --   unfilled, where_stopped                                  a part that stops
 --   words_begin, words_on, words_stop, words_end
 -- Assumes nothing.
 use Prim.Native.Nat.{ℕ, suc, ◌+◌, ◌-◌, ◌<◌, ◌≤◌}
 use mathlib.Core.List.{List, [], ◌∷◌, ◌++◌, append-nil, append_assoc}
-use mathlib.Core.Path.{◌≡◌, refl, sym, ap, ◌∙◌, subst}
+use mathlib.Core.Path.{◌≡◌, refl, sym, ap, ◌∙◌}
 use native.Mathlib.Omega.{arith}
-use lib.ListN.{get_or, length, set, take, drop, replicate, length-append, length-replicate, replicate-append-replicate}
+use borrow.Rule.Slice.PartMut.{put_mid}
+use lib.ListN.{length, set, take, drop, replicate, length-append, length-replicate, length-take, length-drop}
 use lib.Seq.{sets}
 use denote.Enum.Declared.{tag_of}
 use Rattle.sheet.specs.Sheet.{word_key}
 use Rattle.sheet.specs.Reader.{Read, got, bad, and_then, fixed_from, number_from, most_word, words_from}
-use Rattle.sheet.proofs.Writing.{sets_append, bytes_go}
+use Rattle.sheet.proofs.Writing.{sets_append, part_written}
 use Rattle.sheet_read.specs.declared.Took.{Took}
 use Rattle.sheet_read.specs.declared.Took.TheVariants.{Word, Bad}
 use Rattle.sheet_read.specs.contracts.Took.{the_type}
 use Rattle.sheet_read.specs.Told.{place_of, Reads, Stores, line_from}
 use Rattle.sheet_read.proofs.Bytes.{no_more}
 
-module _ (l : List ℕ) (from i : ℕ) where
-  pub clear_go : {l₁ : List ℕ} → from ≤ i → l₁ ≡ sets l from (replicate (i - from) 0) → set l₁ i 0 ≡ sets l from (replicate (i + 1 - from) 0)
-  clear_go h e =
-      let zeros : List ℕ = replicate (i - from) 0 in
-      let n : from + length zeros ≡ i = rw length-replicate (omega arith) in
-      let y : i + 1 - from ≡ i - from + 1 = omega arith in
-      rw (e, y, ← replicate-append-replicate {A = ℕ} (i - from) 1 0, ← sets_append l from zeros (0 ∷ []), n)
-
-pub copy_go : (l words : List ℕ) (i : ℕ) {l₁ : List ℕ} → i < length words → l₁ ≡ sets l 0 (take i words) → set l₁ i (get_or words i 0) ≡ sets l 0 (take (i + 1) words)
-copy_go l words i {l₁} h e = let z : 0 + i ≡ i = omega arith in subst (λ j. set l₁ j (get_or words i 0) ≡ sets l 0 (take (i + 1) words)) z (bytes_go l words 0 i h e)
+-- a part of a list that was filled with zeros
+pub cleared : (l : List ℕ) (from k : ℕ) {ys : List ℕ} → ys ≡ replicate (length (take k (drop from l))) 0 → from + k ≤ length l → put_mid from k l ys ≡ sets l from (replicate k 0)
+cleared l from k e h =
+    let n : length (take k (drop from l)) ≡ k = simp (length-take, length-drop) (omega arith) in
+    part_written l (replicate k 0) from k (e ∙ ap (λ (m : ℕ). replicate m 0) n) (sym (length-replicate {A = ℕ} k 0)) (rw (length-replicate {A = ℕ} k 0) h)
 
 -- ---- a part that is read piece by piece
 

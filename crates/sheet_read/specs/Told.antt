@@ -4,12 +4,15 @@
 --   Reads                   a part that stands for a number
 --   Filled, Stores          a part that stands for words, which are stored one behind the other
 --   line_from                the line of one word
+--   read_number, read_place  the numbers of the entry's answer
 --
 -- Assumes nothing.
-use Rattle.std.specs.Prelude.{ℕ, ◌≤◌, List, ◌≡◌, length, drop}
+use Rattle.std.specs.Prelude.{ℕ, ◌≤◌, List, ◌≡◌, length, drop, Result, Ok, Err}
 use Rattle.std.proofs.lemmas.List.Edits.{sets}
 use Rattle.sheet.specs.Reader.{Read, got, bad, and_then, fixed_from, number_from, most_word}
 use Rattle.sheet.specs.Sheet.{word_key}
+use Rattle.sheet_read.specs.declared.Unread.{Unread}
+use Rattle.sheet_read.specs.declared.Unread.TheVariants.{Text, Room}
 use Rattle.sheet_read.specs.declared.Took.{Took}
 use Rattle.sheet_read.specs.declared.Took.TheVariants.{Word, Bad}
 
@@ -49,3 +52,18 @@ pub record Stores (text before : List ℕ) (i many : ℕ) (after : List ℕ) (wh
 -- `words_from` reads such lines, one after the other
 unfoldable pub line_from : ℕ → List ℕ → Read ℕ
 line_from k text = and_then (fixed_from (word_key k) k text) (λ _ text. number_from 0 most_word text)
+
+-- ---- the numbers of the entry's answer: 19 with the offset, 10 with the row count, 0 where a table was read
+
+abbrev pub unread_number : Unread → ℕ
+unread_number (Text p) = 19
+unread_number (Room n) = 10
+
+abbrev pub read_number : {A : Type 0} → Result A Unread → ℕ
+read_number (Ok x) = 0
+read_number (Err e) = unread_number e
+
+abbrev pub read_place : {A : Type 0} → Result A Unread → ℕ
+read_place (Ok x) = 0
+read_place (Err (Text p)) = p
+read_place (Err (Room n)) = n

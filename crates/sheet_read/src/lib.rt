@@ -7,20 +7,42 @@ ghost use Rattle.std.proofs.lemmas.List.Edits.{sets};
 ghost use Rattle.table.specs.Rows.{name_of};
 ghost use Rattle.sheet.specs.Sheet.{decimal, line_of, feed, row_key, kind_key};
 ghost use Rattle.sheet.specs.Reader.{fixed_from, is_digit, digits_from, number_from, kind_from, words_from, row_from, rows_from, table_from, read_sheet};
-ghost use Rattle.sheet.specs.Answers.{ReadAnswer};
-ghost use Rattle.sheet_read.specs.Told.{Reads, Stores, worth, line_from};
+ghost use Rattle.sheet.specs.Answers.{ReadAnswer, written_by};
+ghost use Rattle.refusal.specs.Numbers.{number_of};
+ghost use Rattle.sheet_read.specs.Told.{Reads, Stores, worth, line_from, unread_number, read_number, read_place};
 
-// 0 or the number of a refusal, the offset or the row count that goes with it, and how many words were written.
-#[derive(Clone, Copy)]
-pub struct Read {
-    pub number: u32,
-    pub place: usize,
-    pub written: usize,
+use refusal::Refusal;
+use std::error::Error;
+use std::fmt;
+
+// Why no table was read: the offset at which the text cannot go on as a sheet, or the row count that the lent words are too few for.
+#[derive(Clone, Copy, Debug, PartialEq, Eq)]
+pub enum Unread {
+    Text(usize),
+    Room(u32),
 }
 
-const ROOM: u32 = 10;
+impl Unread {
+    pub fn refusal(self) -> Refusal
+        ensures { number_of result ≡ unread_number self }
+    {
+        match self {
+            Unread::Text(_) => Refusal::Text,
+            Unread::Room(_) => Refusal::Room,
+        }
+    }
+}
 
-const TEXT: u32 = 19;
+impl fmt::Display for Unread {
+    fn fmt<W: fmt::Write>(&self, f: &mut fmt::Formatter<W>) -> fmt::Result {
+        match self {
+            Unread::Text(offset) => write!(f, "no sheet from byte {offset} on"),
+            Unread::Room(rows) => write!(f, "no room for {rows} rows"),
+        }
+    }
+}
+
+impl Error for Unread {}
 
 const MOST_ROWS: u32 = 512;
 
@@ -198,18 +220,6 @@ fn words(text: &[u8], at: usize, count: u32, out: &mut [u32], to: usize) -> Took
     Took::Word(count, p)
 }
 
-// Zeros from place `from` up to place `to`.
-fn clear(out: &mut [u32], from: usize, to: usize)
-    requires { (from ≤ to) × (to ≤ length out.old) }
-    ensures { out.new ≡ sets out.old from (replicate (to - from) 0) }
-{
-    let mut i = from;
-    while i < to {
-        out[i] = 0;
-        i += 1;
-    }
-}
-
 // The lines of row r up to its kind's name, which are at most twenty bytes.
 fn start(text: &[u8], at: usize, r: u32) -> Took
     requires { at ≤ length text.now }
@@ -239,7 +249,7 @@ fn row(text: &[u8], at: usize, r: u32, out: &mut [u32], to: usize) -> Took
     let Took::Word(_, _) = w else {
         return w;
     };
-    clear(out, to + 1 + used as usize, to + 6);
+    out[to + 1 + used as usize..to + 6].fill(0);
     w
 }
 
@@ -292,44 +302,20 @@ fn whole(text: &[u8], out: &mut [u32]) -> Took
     w
 }
 
-fn copy(out: &mut [u32], words: &[u32])
-    requires { length words.now ≤ length out.old }
-    ensures { out.new ≡ sets out.old 0 words.now }
-{
-    let mut i: usize = 0;
-    while i < words.len() {
-        out[i] = words[i];
-        i += 1;
-    }
-}
-
-// The words are read apart first, so that a refusal leaves every lent word.
-pub fn read_sheet(text: &[u8], rows: &mut [u32]) -> Read
-    ensures answer { ReadAnswer text.now rows.old result.number result.place result.written rows.new }
+// The words are read apart first, so that a refusal leaves every lent word. How many words the table has is answered.
+pub fn read_sheet(text: &[u8], rows: &mut [u32]) -> Result<usize, Unread>
+    ensures answer { ReadAnswer text.now rows.old (read_number result) (read_place result) (written_by result) rows.new }
 {
     let mut read = [0u32; 3072];
-    let w = whole(text, &mut read);
-    match w {
-        Took::Bad(p) => Read {
-            number: TEXT,
-            place: p,
-            written: 0,
-        },
+    match whole(text, &mut read) {
+        Took::Bad(p) => Err(Unread::Text(p)),
         Took::Word(n, _) => {
-            let many = (6 * n) as usize;
+            let many = 6 * n as usize;
             if rows.len() < many {
-                return Read {
-                    number: ROOM,
-                    place: n as usize,
-                    written: 0,
-                };
+                return Err(Unread::Room(n));
             }
-            copy(rows, &read[..many]);
-            Read {
-                number: 0,
-                place: 0,
-                written: many,
-            }
+            rows[..many].copy_from_slice(&read[..many]);
+            Ok(many)
         }
     }
 }

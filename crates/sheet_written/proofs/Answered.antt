@@ -1,38 +1,18 @@
 -- What `write_sheet` answers: a refusal of the table, lent bytes that are too few, or the sheet.
 -- Assumes nothing.
-use Prim.Native.Nat.{ℕ, ◌+◌, ◌*◌, ◌%◌, ◌<◌, ◌≤◌}
-use mathlib.Core.Bool.{Bool, true, false, cond, ◌&&◌, false≢true}
+use Prim.Native.Nat.{ℕ, ◌+◌, ◌*◌, ◌<◌, ◌≤◌}
+use mathlib.Core.Bool.{true}
 use mathlib.Core.List.{List}
-use mathlib.Core.Path.{◌≡◌, refl, ap, ◌∙◌}
+use mathlib.Core.Path.{◌≡◌, ap, ◌∙◌}
 use native.Mathlib.Omega.{arith}
-use borrow.Author.Tests.{ne_eqb, eqb-true, le-leb, lt-leb, leb-true}
-use lib.Dec.{eqb, leb}
+use borrow.Author.Tests.{ne_eqb, le-leb, lt-leb}
 use lib.ListN.{length, take, drop, replicate, length-replicate}
 use lib.Seq.{sets, sets-eq, take-append_seam, length-sets}
 use Rattle.table.specs.Rows.{size}
-use Rattle.table.specs.Check.{Refusal, answer, length_right}
-use Rattle.sheet.specs.Sheet.{sheet_of, fault_from, sheet_refusal, has_sheet}
+use Rattle.table.specs.Check.{answer}
+use Rattle.sheet.specs.Sheet.{sheet_of, sheet_refusal, has_sheet}
 use Rattle.sheet_written.proofs.Long.{sheet_fits}
 use Rattle.sheet.specs.Answers.{WriteAnswer, write_refusal, write_answer, bytes_after}
-
--- a table that has a sheet has rows of six words, 512 at most
-held : (b : Bool) (x : Refusal) → eqb (cond b x (answer 1 0)).number 0 ≡ true → b ≡ true
-held true x h = refl
-held false x h = absurd (false≢true h)
-
-both : (a b : Bool) → (a && b) ≡ true → (a ≡ true) × (b ≡ true)
-both true b h = (refl, h)
-both false b h = absurd (false≢true h)
-
-rows_of_six : (t : List ℕ) → length_right t ≡ true → (length t ≡ 6 * size t) × (size t ≤ 512)
-unfolding length_right
-rows_of_six t h =
-    let p = both (eqb (length t % 6) 0) (leb 1 (size t) && leb (size t) 512) h in
-    let q = both (leb 1 (size t)) (leb (size t) 512) p.1 in let r = eqb-true (length t % 6) 0 p.0 in (omega arith, leb-true (size t) 512 q.1)
-
-pub has_rows : (t : List ℕ) → has_sheet t ≡ true → (length t ≡ 6 * size t) × (size t ≤ 512)
-unfolding sheet_refusal
-has_rows t h = rows_of_six t (held (length_right t) (fault_from (size t) t 0) h)
 
 pub has_sheet_lem : (t : List ℕ) {k r : ℕ} → answer k r ≡ sheet_refusal t → k ≡ 0 → has_sheet t ≡ true
 has_sheet_lem t e z = rw (← e, z)

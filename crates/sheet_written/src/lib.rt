@@ -2,91 +2,59 @@
 // behind what they wrote.
 #![tactic(auto)]
 
-ghost use Rattle.std.specs.Prelude.{◌≡◌, true, ◌+◌, ◌*◌, ◌<◌, ◌≤◌, length};
+ghost use Rattle.std.specs.Prelude.{◌≡◌, true, ◌+◌, ◌*◌, ◌<◌, ◌≤◌, length, IfOk};
 ghost use Rattle.std.proofs.lemmas.List.Edits.{sets};
 ghost use Rattle.table.specs.Rows.{size};
 ghost use Rattle.table.specs.Check.{answer};
 ghost use Rattle.sheet.specs.Sheet.{decimal, line_of, word_key, words_text, row_text, rows_text, sheet_of, row_fault, fault_from, sheet_refusal, has_sheet};
-ghost use Rattle.sheet.specs.Answers.{WriteAnswer};
+ghost use Rattle.sheet.specs.Answers.{WriteAnswer, written_by};
+ghost use Rattle.refusal.specs.Numbers.{answer_number, refused_number, refused_row};
 
-const LENGTH: u32 = 1;
+use refusal::{Refusal, Refused};
+use table::Kind;
 
-const KIND: u32 = 2;
+// How many rows a table may have.
+const MOST_ROWS: usize = 512;
 
-const SPARE: u32 = 3;
-
-const ROOM: u32 = 10;
-
-// What was written, or why nothing was: a number and its row.
-#[derive(Clone, Copy)]
-pub struct Written {
-    pub number: u32,
-    pub row: u32,
-    pub written: usize,
-}
-
-#[derive(Clone, Copy)]
-struct Refused {
-    number: u32,
-    row: u32,
-}
-
-// 2 or 3 where row r is refused, else 0.
-fn row_fault(table: &[u32], r: u32) -> u32
+// 2 and 3 on row r.
+fn check_row(table: &[u32], r: u32) -> Result<(), Refusal>
     requires { (r < size table.now) × (r < 512) }
-    ensures { result ≡ row_fault table.now r }
+    ensures { answer_number result ≡ row_fault table.now r }
 {
-    if table::kind_at(table, r) >= table::KINDS {
-        return KIND;
+    if Kind::try_from(table::kind_at(table, r)).is_err() {
+        return Err(Refusal::Kind);
     }
-    if table::spare_word(table, r) != 0 {
-        return SPARE;
+    if table::spare_word(table, r).is_some() {
+        return Err(Refusal::Spare);
     }
-    0
+    Ok(())
 }
 
-fn rows_refusal(table: &[u32], n: u32) -> Refused
+fn check_rows(table: &[u32], n: u32) -> Result<(), Refused>
     requires { (length table.now ≡ 6 * n) × (n ≤ 512) }
-    ensures { answer result.number result.row ≡ fault_from n table.now 0 }
+    ensures { answer (refused_number result) (refused_row result) ≡ fault_from n table.now 0 }
 {
-    let mut r: u32 = 0;
-    while r < n {
-        let fault = row_fault(table, r);
-        if fault != 0 {
-            return Refused {
-                number: fault,
-                row: r,
-            };
+    for row in 0..n {
+        if let Err(why) = check_row(table, row) {
+            return Err(Refused { why, row });
         }
-        r += 1;
     }
-    Refused { number: 0, row: 0 }
+    Ok(())
 }
 
-// 1 to 3, for which a table has no sheet.
-fn refusal(table: &[u32]) -> Refused
-    ensures { answer result.number result.row ≡ sheet_refusal table.now }
+// 1 to 3, for which a table has no sheet. The row count is answered.
+fn check_table(table: &[u32]) -> Result<u32, Refused>
+    ensures { (answer (refused_number result) (refused_row result) ≡ sheet_refusal table.now) × IfOk result (λ n. (length table.now ≡ 6 * n) × (n ≤ 512)) }
 {
-    if table.len() % 6 != 0 {
-        return Refused {
-            number: LENGTH,
-            row: 0,
-        };
-    }
     let n = table.len() / 6;
-    if n < 1 {
-        return Refused {
-            number: LENGTH,
+    if table.len() % 6 != 0 || n < 1 || n > MOST_ROWS {
+        return Err(Refused {
+            why: Refusal::Length,
             row: 0,
-        };
+        });
     }
-    if n > 512 {
-        return Refused {
-            number: LENGTH,
-            row: 0,
-        };
-    }
-    rows_refusal(table, n as u32)
+    check_rows(table, n as u32)?;
+    Ok(n as u32)
 }
 
 // Word k's line.
@@ -104,11 +72,8 @@ fn put_words(out: &mut [u8], at: usize, table: &[u32], r: u32, used: u32) -> usi
     ensures { (out.new ≡ sets out.old at (words_text used table.now r 1)) × (result ≡ at + length (words_text used table.now r 1)) }
 {
     let mut p = at;
-    let mut k: u32 = 1;
-    while k <= used {
-        let v = table::word_at(table, r, k);
-        p = put_word(out, p, k, v);
-        k += 1;
+    for k in 1..used + 1 {
+        p = put_word(out, p, k, table::word_at(table, r, k));
     }
     p
 }
@@ -129,10 +94,8 @@ fn put_rows(out: &mut [u8], at: usize, table: &[u32], n: u32) -> usize
     ensures { (out.new ≡ sets out.old at (rows_text n table.now 0)) × (result ≡ at + length (rows_text n table.now 0)) }
 {
     let mut p = at;
-    let mut r: u32 = 0;
-    while r < n {
+    for r in 0..n {
         p = put_row(out, p, table, r);
-        r += 1;
     }
     p
 }
@@ -146,39 +109,26 @@ fn put_sheet(out: &mut [u8], table: &[u32], n: u32) -> usize
 }
 
 // The sheet is written aside first, so that lent bytes that are too few stay as they were. No sheet has more than 65,536 bytes.
-fn write_passed(table: &[u32], n: u32, text: &mut [u8]) -> Written
+fn write_passed(table: &[u32], n: u32, text: &mut [u8]) -> Result<usize, Refused>
     requires { (length table.now ≡ 6 * n) × (n ≤ 512) × (has_sheet table.now ≡ true) }
-    ensures { WriteAnswer table.now text.old result.number result.row result.written text.new }
+    ensures { WriteAnswer table.now text.old (refused_number result) (refused_row result) (written_by result) text.new }
 {
     let mut page = [0u8; 65536];
     let long = put_sheet(&mut page, table, n);
     if text.len() < long {
-        return Written {
-            number: ROOM,
+        return Err(Refused {
+            why: Refusal::Room,
             row: n,
-            written: 0,
-        };
+        });
     }
-    let written = sheet::put_bytes(text, 0, &page[..long]);
-    Written {
-        number: 0,
-        row: 0,
-        written,
-    }
+    Ok(sheet::put_bytes(text, 0, &page[..long]))
 }
 
-// The lent bytes hold the sheet from the first on. A refusal leaves them: 1 to 3 where the table has no sheet, with the row of 2 and 3; 10 where they are
-// too few, with the row count.
-pub fn write_sheet(table: &[u32], text: &mut [u8]) -> Written
-    ensures answer { WriteAnswer table.now text.old result.number result.row result.written text.new }
+// The lent bytes hold the sheet from the first on, and its length is answered. A refusal leaves them: 1 to 3 where the table has no sheet, with the row of 2
+// and 3; 10 where they are too few, with the row count.
+pub fn write_sheet(table: &[u32], text: &mut [u8]) -> Result<usize, Refused>
+    ensures answer { WriteAnswer table.now text.old (refused_number result) (refused_row result) (written_by result) text.new }
 {
-    let a = refusal(table);
-    if a.number != 0 {
-        return Written {
-            number: a.number,
-            row: a.row,
-            written: 0,
-        };
-    }
-    write_passed(table, (table.len() / 6) as u32, text)
+    let n = check_table(table)?;
+    write_passed(table, n, text)
 }

@@ -1,6 +1,7 @@
 -- The laws that the proofs of the functions cite.
-pub mod Words
+pub mod Different
 pub mod Loops
+pub mod Words
 pub mod Visible
 pub mod Noting
-pub mod Turns
+pub mod Refusing

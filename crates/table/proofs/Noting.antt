@@ -1,97 +1,104 @@
 -- What the check notes of a table, from row to row: the record `Noted`, and the answer that is still to come.
 -- Assumes nothing.
-use Prim.Native.Nat.{ℕ, suc, ◌+◌, ◌-◌, ◌<◌, ◌≤◌}
-use mathlib.Core.Bool.{Bool, true, false}
+use Prim.Native.Nat.{ℕ, suc, ◌+◌, ◌-◌, ◌*◌, ◌<◌, ◌≤◌}
 use mathlib.Core.List.{List}
-use mathlib.Core.Path.{◌≡◌, refl, sym, ◌∙◌}
+use mathlib.Core.Path.{◌≡◌, ap, ◌∙◌}
 use native.Mathlib.Omega.{arith}
 use native.Mathlib.Decide.{ℕ_discrete}
 use native.Mathlib.Numerals.{add-one}
-use borrow.Author.Tests.{ne_eqb, ltb-true}
-use lib.ListN.{get_or, set, length, replicate, length-replicate, length-set}
+use borrow.Author.Tests.{ne_eqb, eq-eqb, ltb-true}
+use lib.Dec.{eqb}
+use lib.ListN.{get_or, set, length, length-set}
 use lib.Seq.{get_or-set_same, get_or-set_other}
 use Rattle.table.specs.Rows.{kind_at, size}
 use Rattle.table.specs.Scan.{after, stack_at, inner, body_of, home_by, home}
-use Rattle.table.specs.Check.{kind_right, spare_right, code_right, place_right, depth_right, names_right, types_right, end_right, or_else, row_refusal, answer, rows_from}
+use Rattle.table.specs.Check.{depth_right, end_right, outside, row_refusal, answer, rows_from}
+use Rattle.table.specs.Bodies.{nexts_in}
+use Rattle.table.specs.Clauses.{args_in, loop_detail}
 use Rattle.table.specs.Right.{passing_row_is_right}
-use Rattle.table.specs.Kept.{open_loops, depth_after, Noted}
+use Rattle.table.specs.Kinds.{kind_number}
+use Rattle.table.specs.Telling.{loop_told}
+use Rattle.table.specs.Kept.{loops_of, nowhere, Noted, Counted}
+use Rattle.table.specs.declared.Kind.{Kind}
+use Rattle.table.specs.declared.Kind.TheVariants.{For}
+use Rattle.table.specs.declared.Innermost.{Innermost}
+use Rattle.table.specs.declared.Notes.{Notes}
+use Rattle.table.specs.declared.Place.{Place}
+use Rattle.table.specs.declared.OpenLoops.{OpenLoops}
+use Rattle.table.proofs.Loops.{open_length, open_outside, counted_at}
 
-pub noted_none : (t : List ℕ) (a : List (List ℕ)) → size t ≤ 512 → Noted t 0 (replicate 512 0) (replicate 512 0) a 0
-unfolding open_loops stack_at
-noted_none t a h =
-    record {
-      rows = h;
-      below = omega arith;
-      deep = omega arith;
-      homes_long = length-replicate {A = ℕ} 512 0;
-      bodies_long = length-replicate {A = ℕ} 512 0;
-      loops = refl;
-      home_of = λ k l. absurd (omega arith);
-      body_of_lem = λ k l. absurd (omega arith);
-    }
+pub size_is : (t : List ℕ) (n : ℕ) → length t ≡ 6 * n → n ≡ size t
+size_is t n e = omega arith
 
--- a word noted for row i, behind those of the rows before
-noted : (l : List ℕ) (i x : ℕ) (f : ℕ → ℕ) → i < length l → x ≡ f i → ((k : ℕ) → k < i → get_or l k 0 ≡ f k) → (k : ℕ) → k < i + 1 → get_or (set l i x) k 0 ≡ f k
-noted l i x f h e all k less =
-    elim (ℕ_discrete k i) [ yes q ↦ rw q (get_or-set_same l i x 0 h ∙ e) | no q ↦ get_or-set_other l i k x 0 q ∙ all k (below k q less) ]
+-- a place noted for row i, behind those of the rows before
+noted : (l : List Place) (i : ℕ) (x : Place) (g : Place → ℕ) (f : ℕ → ℕ) → i < length l → g x ≡ f i → ((k : ℕ) → k < i → g (get_or l k nowhere) ≡ f k) → (k : ℕ) → k < i + 1 → g (get_or (set l i x) k nowhere) ≡ f k
+noted l i x g f h e all k less =
+    elim (ℕ_discrete k i) [ yes q ↦ rw (q, get_or-set_same l i x nowhere h) e | no q ↦ rw (get_or-set_other l i k x nowhere q) (all k (below k q less)) ]
   where
     below : (k : ℕ) → (k ≡ i → ⊥) → k < i + 1 → k < i
     below k q less = omega arith
 
-pub noted_more : (t : List ℕ) (i : ℕ) {kind n h b d e : ℕ} {hs bs : List ℕ} {a : List (List ℕ)} (a₁ : List (List ℕ)) → Noted t i hs bs a d → i < n
-    → n ≡ size t → kind ≡ kind_at t i
-    → h ≡ home_by n kind i (open_loops a d) → b ≡ inner n (open_loops a d) → open_loops a₁ (depth_after kind d) ≡ after kind i (open_loops a d)
-    → (e ≡ depth_after kind d) × (e ≤ 8) → Noted t (i + 1) (set hs i h) (set bs i b) a₁ e
+pub noted_more : (t : List ℕ) (i : ℕ) {notes : Notes} (kind : Kind) {h b : ℕ} (next : OpenLoops) → Noted t i notes → i < notes.size → kind_number kind ≡ kind_at t i
+    → h ≡ home_by notes.size (kind_number kind) i (loops_of notes.loops) → b ≡ inner notes.size (loops_of notes.loops)
+    → loops_of next ≡ after (kind_number kind) i (loops_of notes.loops) → next.depth ≤ 8
+    → Noted t (i + 1) (record { size = notes.size; before = kind; places = set notes.places i (record { home = h; body = b }); loops = next })
 unfolding home body_of stack_at
-noted_more t i {kind} {n} {h} {b} {d} {e} {hs} {bs} {a} a₁ N l en ek eh eb ea ed =
+noted_more t i {notes} kind {h} {b} next N l ek eh eb ea ed = let z : notes.size ≡ size t = size_is t notes.size N.whole in
     record {
+      whole = N.whole;
       rows = N.rows;
       below = omega arith;
-      deep = ed.1;
-      homes_long = length-set hs i h ∙ N.homes_long;
-      bodies_long = length-set bs i b ∙ N.bodies_long;
-      loops = rw (add-one i, ed.0, ← ek, ← N.loops) ea;
-      home_of = noted hs i h (home t) (omega arith) (rw (← en, ← ek, ← N.loops) eh) N.home_of;
-      body_of_lem = noted bs i b (body_of t) (omega arith) (rw (← en, ← N.loops) eb) N.body_of_lem;
+      deep = ed;
+      long = length-set notes.places i (record { home = h; body = b }) ∙ N.long;
+      loops = rw (add-one i, ← ek, ← N.loops) ea;
+      before = rw (add-one i) ek;
+      home_of = noted notes.places i (record { home = h; body = b }) (λ p. p.home) (home t) (omega (arith, N.long, N.rows)) (rw (← z, ← ek, ← N.loops) eh) N.home_of;
+      body_of_lem = noted notes.places i (record { home = h; body = b }) (λ p. p.body) (body_of t) (omega (arith, N.long, N.rows)) (rw (← z, ← N.loops) eb) N.body_of_lem;
     }
 
 -- a FOR that passed has room
-pub room : (t : List ℕ) (i : ℕ) {kind x : ℕ} → kind ≡ kind_at t i → x ≡ row_refusal t i → x ≡ 0 → kind ≡ 4 → length (stack_at t i) < 8
+pub room : (t : List ℕ) (i : ℕ) {notes : Notes} (kind : Kind) → Noted t i notes → kind_number kind ≡ kind_at t i → row_refusal t i ≡ 0 → kind ≡ For → notes.loops.depth < 8
 unfolding depth_right
-room t i ek ex z k = ltb-true _ 8 (rw (← ek, k) at (passing_row_is_right t i (sym ex ∙ z)).depth)
+room t i {notes} kind N ek z k =
+    let h : length (stack_at t i) < 8 = ltb-true _ 8 (rw (← ek, k) at (passing_row_is_right t i z).depth) in
+    omega (arith, open_length notes.loops.entries notes.loops.depth, ap length N.loops)
 
--- a row is refused by 2 to 8 alone
-pub row_number : (t : List ℕ) (r : ℕ) {x : ℕ} → x ≡ row_refusal t r → (x ≡ 1 → ⊥) × (x ≡ 9 → ⊥)
-unfolding row_refusal
-row_number t r e = go (kind_right t r) (spare_right t r) (code_right t r) (place_right t r) (depth_right t r) (names_right t r) (types_right t r) e
-  where
-    go : {x : ℕ} (b2 b3 b4 b5 b6 b7 b8 : Bool)
-        → x ≡ or_else b2 2 (or_else b3 3 (or_else b4 4 (or_else b5 5 (or_else b6 6 (or_else b7 7 (or_else b8 8 0)))))) → (x ≡ 1 → ⊥) × (x ≡ 9 → ⊥)
-    go false b3 b4 b5 b6 b7 b8 e = (λ q. omega arith, λ q. omega arith)
-    go true false b4 b5 b6 b7 b8 e = (λ q. omega arith, λ q. omega arith)
-    go true true false b5 b6 b7 b8 e = (λ q. omega arith, λ q. omega arith)
-    go true true true false b6 b7 b8 e = (λ q. omega arith, λ q. omega arith)
-    go true true true true false b7 b8 e = (λ q. omega arith, λ q. omega arith)
-    go true true true true true false b8 e = (λ q. omega arith, λ q. omega arith)
-    go true true true true true true false e = (λ q. omega arith, λ q. omega arith)
-    go true true true true true true true e = (λ q. omega arith, λ q. omega arith)
+pub few : (t : List ℕ) (i : ℕ) {notes : Notes} → Noted t i notes → Counted 512 (loops_of notes.loops)
+few t i N = rw N.loops (counted_at t i 512 (omega (arith, N.below, N.rows)))
+
+-- the innermost loop as it is told
+pub loop_is : (t : List ℕ) (i f : ℕ) {notes : Notes} (x : Innermost) → Noted t i notes
+    → (x.body ≡ inner notes.size (loops_of notes.loops)) × (x.args ≡ args_in (loops_of notes.loops)) × (x.nexts ≡ nexts_in (loops_of notes.loops))
+    → loop_told f x ≡ loop_detail t i f
+unfolding loop_detail body_of
+loop_is t i f {notes} x N e = let z : notes.size ≡ size t = size_is t notes.size N.whole in rw (e.0, e.1, e.2, N.loops, z)
 
 module _ (t : List ℕ) (n i : ℕ) where
   less : i < n → n - i ≡ suc (n - (i + 1))
   less h = omega arith
 
-  pub rows_go : {x : ℕ} → i < n → x ≡ row_refusal t i → x ≡ 0 → rows_from (n - i) t i ≡ rows_from (n - (i + 1)) t (i + 1)
+  pub rows_go : i < n → row_refusal t i ≡ 0 → rows_from (n - i) t i ≡ rows_from (n - (i + 1)) t (i + 1)
   unfolding rows_from
-  rows_go h e z = rw (less h, ← e, z)
+  rows_go h z = rw (less h, z)
 
   pub rows_stop : {x : ℕ} → i < n → x ≡ row_refusal t i → (x ≡ 0 → ⊥) → rows_from (n - i) t i ≡ answer x i
   unfolding rows_from
   rows_stop h e z = rw (less h, ← e, ne_eqb _ 0 z)
 
-  pub rows_pass : {b : Bool} → n ≤ i → b ≡ end_right t → b ≡ true → rows_from (n - i) t i ≡ answer 0 0
-  unfolding rows_from
-  rows_pass h e z = let q : n - i ≡ 0 = omega arith in rw (q, ← e, z)
+-- ---- behind the last row
 
-  pub rows_open : {b : Bool} → n ≡ i → b ≡ end_right t → b ≡ false → rows_from (n - i) t i ≡ answer 9 n
-  unfolding rows_from
-  rows_open h e z = let q : n - i ≡ 0 = omega arith in rw (q, ← e, z, h)
+module _ (t : List ℕ) {notes : Notes} (N : Noted t notes.size notes) where
+  pub outside_is : outside (stack_at t notes.size) ≡ eqb notes.loops.depth 0
+  outside_is = rw (← N.loops) (open_outside notes.loops.entries notes.loops.depth)
+
+  pub rows_open : 0 < notes.loops.depth → rows_from 0 t notes.size ≡ answer 9 notes.size
+  unfolding rows_from end_right
+  rows_open h = rw (← size_is t notes.size N.whole, outside_is, ne_eqb notes.loops.depth 0 (λ q. omega arith))
+
+  pub rows_outless : notes.loops.depth ≤ 0 → (kind_number notes.before ≡ 8 → ⊥) → rows_from 0 t notes.size ≡ answer 9 notes.size
+  unfolding rows_from end_right
+  rows_outless h n = let z : notes.loops.depth ≡ 0 = omega arith in rw (← size_is t notes.size N.whole, outside_is, eq-eqb notes.loops.depth 0 z, ← N.before, ne_eqb (kind_number notes.before) 8 n)
+
+  pub rows_pass : notes.loops.depth ≤ 0 → kind_number notes.before ≡ 8 → rows_from 0 t notes.size ≡ answer 0 0
+  unfolding rows_from end_right
+  rows_pass h e = let z : notes.loops.depth ≡ 0 = omega arith in rw (← size_is t notes.size N.whole, outside_is, eq-eqb notes.loops.depth 0 z, ← N.before, e)

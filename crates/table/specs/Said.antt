@@ -1,14 +1,16 @@
--- How the code says what a word of a row is: `field_of` reads the number, `said` five of them.
+-- How the code says what a word of a row is: `field_of` reads one, `said` the five of a row.
 -- Assumes nothing.
-use Rattle.std.specs.Prelude.{ℕ, zero, suc}
 use Rattle.table.specs.Rows.{Field, spare, value, code, names, Fields, fields}
+use Rattle.table.specs.declared.Field.{Field as SaidField}
+use Rattle.table.specs.declared.Field.TheVariants.{Unused, Any, Codes, Word, Flag}
+use Rattle.table.specs.declared.Fields.{Fields as SaidFields}
 
-abbrev pub field_of : ℕ → Field
-field_of zero = spare
-field_of (suc zero) = value
-field_of (suc (suc zero)) = names 0
-field_of (suc (suc (suc zero))) = names 1
-field_of (suc (suc (suc (suc n)))) = code n
+abbrev pub field_of : SaidField → Field
+field_of Unused = spare
+field_of Any = value
+field_of Word = names 0
+field_of Flag = names 1
+field_of (Codes n) = code n
 
-abbrev pub said : ℕ → ℕ → ℕ → ℕ → ℕ → Fields
-said a b c d e = fields (field_of a) (field_of b) (field_of c) (field_of d) (field_of e)
+abbrev pub said : SaidFields → Fields
+said u = fields (field_of u.a) (field_of u.b) (field_of u.c) (field_of u.d) (field_of u.e)

@@ -1,229 +1,266 @@
 // The check of a loop table's rows: refusals 1 to 9, with the row and the clause that tell the fitter what to mend.
-// `tell_rows` and `check_rows` are the entries. The stack of open loops is eight entries of three words (its FOR row, its ARGs, its NEXTs), by value.
+// `tell_rows` and `check_rows` are the entries. A table's words are numbers that anybody may have typed, so what reads them takes every number.
 #![tactic(auto)]
 
-ghost use Rattle.std.specs.Prelude.{◌≡◌, ◌+◌, ◌-◌, ◌*◌, ◌/◌, ◌%◌, ◌<◌, ◌≤◌, true, cond, eqb, ltb, [], ◌∷◌, length, get_or};
-ghost use Rattle.table.specs.Rows.{kind_at, word, size, in_use, named, coded, allows, fields_of, field_at, used_words, operand_count, first_operand, sort_of, wanted_sort};
+ghost use Rattle.std.specs.Prelude.{◌≡◌, ◌≢◌, ◌+◌, ◌-◌, ◌*◌, ◌<◌, ◌≤◌, ℕ, List, cond, eqb, [], ◌∷◌, length, MatchResult, MatchOption};
+ghost use Rattle.table.specs.declared.Kind.TheVariants.{For};
+ghost use Rattle.refusal.specs.Numbers.{number_of, refused_number, refused_row};
+ghost use Rattle.table.specs.Rows.{kind_at, word, size, in_use, named, coded, allows, fields_of, field_in, used_words, operand_count, first_operand, sort_of, wanted_sort};
+ghost use Rattle.table.specs.Kinds.{kind_number, Decodes};
 ghost use Rattle.table.specs.Said.{field_of, said};
-ghost use Rattle.table.specs.Scan.{after, inner, home_by, holds, body_open, stack_at};
+ghost use Rattle.table.specs.Scan.{after, inner, outward, home_by, holds, body_open, stack_at};
 ghost use Rattle.table.specs.Bodies.{nexts_in, operand};
-ghost use Rattle.table.specs.Check.{kind_before, outside, depth_right, end_right, row_refusal, answer, rows_from, table_refusal};
-ghost use Rattle.table.specs.Clauses.{spare_word, code_word, follows_fault, args_in, next_fault, end_fault, stands_fault, place_fault, sight, hidden_word, mistyped_word, detail, name_detail, explained, Told};
-ghost use Rattle.table.specs.Kept.{entry_of, open_loops, depth_after, Counted, Noted};
+ghost use Rattle.table.specs.Check.{kind_before, depth_right, answer, rows_from, table_refusal};
+ghost use Rattle.table.specs.Clauses.{spare_word, code_word, follows_fault, args_in, stands_fault, place_fault, sight, hidden_word, mistyped_word, hidden_body, name_detail, explained, Told};
+ghost use Rattle.table.specs.Telling.{FirstWord, sort_number, placed, seen, hidden_by, broken_number, broken_detail, Answers, told_number, told_row, told_detail, told_fault, told_word, told_body, told_args, told_nexts};
+ghost use Rattle.table.specs.Kept.{loop_of, loops_of, Counted, Noted, Checks};
 
-// The kinds of rows.
-const INPUT: u32 = 0;
-
-const CONST: u32 = 1;
-
-const OP: u32 = 2;
-
-const PICK: u32 = 3;
-
-const FOR: u32 = 4;
-
-const ARG: u32 = 5;
-
-const NEXT: u32 = 6;
-
-const END: u32 = 7;
-
-const OUT: u32 = 8;
+use refusal::{Refusal, Refused};
+use std::error::Error;
+use std::fmt;
 
 // How many kinds there are.
 pub const KINDS: u32 = 9;
 
-// The refusals.
-const LENGTH: u32 = 1;
+// How many rows a table may have.
+const MOST_ROWS: usize = 512;
 
-const KIND: u32 = 2;
-
-const SPARE: u32 = 3;
-
-const CODE: u32 = 4;
-
-const PLACE: u32 = 5;
-
-const DEPTH: u32 = 6;
-
-const NAME: u32 = 7;
-
-const TYPE: u32 = 8;
-
-const OPEN: u32 = 9;
-
-// The faults: what a clause of LENGTH, of PLACE, of NAME or of OPEN says; for TYPE the fault is the sort that is wanted, 1 for a flag.
-pub const SPLIT_ROW: u32 = 1;
-
-pub const NO_ROW: u32 = 2;
-
-pub const MANY_ROWS: u32 = 3;
-
-pub const BEHIND_OUT: u32 = 1;
-
-pub const BEHIND_NEXT: u32 = 2;
-
-pub const LATE_START: u32 = 3;
-
-pub const LATE_ARG: u32 = 4;
-
-pub const LONE_NEXT: u32 = 5;
-
-pub const MANY_NEXTS: u32 = 6;
-
-pub const LONE_END: u32 = 7;
-
-pub const EARLY_END: u32 = 8;
-
-pub const INNER_OUT: u32 = 9;
-
-pub const LATER: u32 = 1;
-
-pub const VALUELESS: u32 = 2;
-
-pub const CLOSED: u32 = 3;
-
-pub const ENTERED: u32 = 4;
-
-pub const UNENDED: u32 = 5;
-
-pub const UNCLOSED: u32 = 1;
-
-pub const OUTLESS: u32 = 2;
-
-// What a word of a row is: unused, any value, an operand that names a word or a flag, or a code, whose number is CODES and how many codes there are.
-const UNUSED: u32 = 0;
-
-const ANY: u32 = 1;
-
-const WORD: u32 = 2;
-
-const FLAG: u32 = 3;
-
-const CODES: u32 = 4;
-
-const OPERATORS: u32 = CODES + 8;
-
-const UPDATES: u32 = CODES + 6;
-
-const CONDITIONS: u32 = CODES + 5;
+// How many loops may be open at once.
+const MOST_LOOPS: usize = 8;
 
 // The first operator that compares and so gives a flag.
 const COMPARISONS: u32 = 3;
 
+// The kinds of rows, in the order of their numbers.
+#[derive(Clone, Copy, Debug, PartialEq, Eq)]
+pub enum Kind {
+    Input,
+    Const,
+    Op,
+    Pick,
+    For,
+    Arg,
+    Next,
+    End,
+    Out,
+}
+
+impl Kind {
+    // The number that stands for it in a table.
+    pub fn number(self) -> u32
+        ensures { result ≡ kind_number self }
+    {
+        self as u32
+    }
+}
+
+// A number that stands for no kind.
+#[derive(Clone, Copy, Debug, PartialEq, Eq)]
+pub struct UnknownKind(pub u32);
+
+impl TryFrom<u32> for Kind {
+    type Error = UnknownKind;
+
+    ghost try_from_gives = { Decodes };
+
+    fn try_from(number: u32) -> Result<Self, UnknownKind> {
+        match number {
+            0 => Ok(Kind::Input),
+            1 => Ok(Kind::Const),
+            2 => Ok(Kind::Op),
+            3 => Ok(Kind::Pick),
+            4 => Ok(Kind::For),
+            5 => Ok(Kind::Arg),
+            6 => Ok(Kind::Next),
+            7 => Ok(Kind::End),
+            8 => Ok(Kind::Out),
+            _ => Err(UnknownKind(number)),
+        }
+    }
+}
+
+impl fmt::Display for Kind {
+    fn fmt<W: fmt::Write>(&self, f: &mut fmt::Formatter<W>) -> fmt::Result {
+        f.write_str(match self {
+            Kind::Input => "INPUT",
+            Kind::Const => "CONST",
+            Kind::Op => "OP",
+            Kind::Pick => "PICK",
+            Kind::For => "FOR",
+            Kind::Arg => "ARG",
+            Kind::Next => "NEXT",
+            Kind::End => "END",
+            Kind::Out => "OUT",
+        })
+    }
+}
+
+impl fmt::Display for UnknownKind {
+    fn fmt<W: fmt::Write>(&self, f: &mut fmt::Formatter<W>) -> fmt::Result {
+        write!(f, "no kind of row has the number {}", self.0)
+    }
+}
+
+impl Error for UnknownKind {}
+
+// What a row's value is.
+#[derive(Clone, Copy, Debug, PartialEq, Eq)]
+pub enum Sort {
+    Word,
+    Flag,
+}
+
+impl Sort {
+    // 1 for a flag.
+    fn number(self) -> u32
+        ensures { result ≡ sort_number self }
+    {
+        match self {
+            Sort::Word => 0,
+            Sort::Flag => 1,
+        }
+    }
+}
+
+// What a word of a row is: unused, any value, an operand that names a word or a flag, or one of so many codes.
+#[derive(Clone, Copy)]
+enum Field {
+    Unused,
+    Any,
+    Word,
+    Flag,
+    Codes(u32),
+}
+
+impl Field {
+    fn in_use(self) -> u32
+        ensures { (result ≡ in_use (field_of self)) × (result ≤ 1) }
+    {
+        match self {
+            Field::Unused => 0,
+            Field::Any | Field::Word | Field::Flag | Field::Codes(_) => 1,
+        }
+    }
+
+    fn named(self) -> u32
+        ensures { (result ≡ named (field_of self)) × (result ≤ 1) }
+    {
+        match self {
+            Field::Word | Field::Flag => 1,
+            Field::Unused | Field::Any | Field::Codes(_) => 0,
+        }
+    }
+
+    fn coded(self) -> u32
+        ensures { (result ≡ coded (field_of self)) × (result ≤ 1) }
+    {
+        match self {
+            Field::Codes(_) => 1,
+            Field::Unused | Field::Any | Field::Word | Field::Flag => 0,
+        }
+    }
+
+    // Whether a word may stand there, as far as codes go.
+    fn allows(self, word: u32) -> bool
+        ensures { result ≡ allows (field_of self) word }
+    {
+        match self {
+            Field::Codes(many) => word < many,
+            Field::Unused | Field::Any | Field::Word | Field::Flag => true,
+        }
+    }
+}
+
 // What the words a to e of a kind are.
 #[derive(Clone, Copy)]
 struct Fields {
-    a: u32,
-    b: u32,
-    c: u32,
-    d: u32,
-    e: u32,
+    a: Field,
+    b: Field,
+    c: Field,
+    d: Field,
+    e: Field,
 }
 
-fn said(a: u32, b: u32, c: u32, d: u32, e: u32) -> Fields
-    ensures { said result.a result.b result.c result.d result.e ≡ said a b c d e }
-{
-    Fields { a, b, c, d, e }
+impl Fields {
+    fn new(a: Field, b: Field, c: Field, d: Field, e: Field) -> Fields
+        ensures { (result.a ≡ a) × (result.b ≡ b) × (result.c ≡ c) × (result.d ≡ d) × (result.e ≡ e) }
+    {
+        Fields { a, b, c, d, e }
+    }
+
+    // Word k, 1 to 5 for a to e.
+    fn at(self, k: u32) -> Field
+        ensures { field_of result ≡ field_in (said self) k }
+    {
+        match k {
+            1 => self.a,
+            2 => self.b,
+            3 => self.c,
+            4 => self.d,
+            5 => self.e,
+            _ => Field::Unused,
+        }
+    }
 }
 
 // The table of row kinds. What follows is read from it.
-fn fields_of(kind: u32) -> Fields
-    ensures { said result.a result.b result.c result.d result.e ≡ fields_of kind }
+fn fields_of(kind: Kind) -> Fields
+    ensures { said result ≡ fields_of (kind_number kind) }
 {
+    use Field::{Any, Codes, Flag, Unused, Word};
     match kind {
-        INPUT => said(UNUSED, UNUSED, UNUSED, UNUSED, UNUSED),
-        CONST => said(ANY, UNUSED, UNUSED, UNUSED, UNUSED),
-        OP => said(OPERATORS, WORD, WORD, UNUSED, UNUSED),
-        PICK => said(FLAG, WORD, WORD, UNUSED, UNUSED),
-        FOR => said(WORD, WORD, WORD, UPDATES, CONDITIONS),
-        ARG => said(WORD, UNUSED, UNUSED, UNUSED, UNUSED),
-        NEXT => said(WORD, UNUSED, UNUSED, UNUSED, UNUSED),
-        END => said(UNUSED, UNUSED, UNUSED, UNUSED, UNUSED),
-        OUT => said(WORD, UNUSED, UNUSED, UNUSED, UNUSED),
-        _ => said(UNUSED, UNUSED, UNUSED, UNUSED, UNUSED),
+        Kind::Input => Fields::new(Unused, Unused, Unused, Unused, Unused),
+        Kind::Const => Fields::new(Any, Unused, Unused, Unused, Unused),
+        Kind::Op => Fields::new(Codes(8), Word, Word, Unused, Unused),
+        Kind::Pick => Fields::new(Flag, Word, Word, Unused, Unused),
+        Kind::For => Fields::new(Word, Word, Word, Codes(6), Codes(5)),
+        Kind::Arg => Fields::new(Word, Unused, Unused, Unused, Unused),
+        Kind::Next => Fields::new(Word, Unused, Unused, Unused, Unused),
+        Kind::End => Fields::new(Unused, Unused, Unused, Unused, Unused),
+        Kind::Out => Fields::new(Word, Unused, Unused, Unused, Unused),
     }
 }
 
-fn in_use(u: u32) -> u32
-    ensures { (result ≡ in_use (field_of u)) × (result ≤ 1) }
+// The same of any number; what is no kind uses no word, as an END.
+fn fields_by_number(kind: u32) -> Fields
+    ensures { said result ≡ fields_of kind }
 {
-    match u {
-        UNUSED => 0,
-        _ => 1,
+    match Kind::try_from(kind) {
+        Ok(kind) => fields_of(kind),
+        Err(_) => fields_of(Kind::End),
     }
-}
-
-fn named(u: u32) -> u32
-    ensures { (result ≡ named (field_of u)) × (result ≤ 1) }
-{
-    match u {
-        WORD => 1,
-        FLAG => 1,
-        _ => 0,
-    }
-}
-
-fn coded(u: u32) -> u32
-    ensures { (result ≡ coded (field_of u)) × (result ≤ 1) }
-{
-    if u < CODES { 0 } else { 1 }
-}
-
-// Whether a word may stand there, as far as codes go.
-fn allows(u: u32, word: u32) -> bool
-    ensures { result ≡ allows (field_of u) word }
-{
-    if u < CODES {
-        return true;
-    }
-    word < u - CODES
 }
 
 // How many of its words a row of this kind uses: the first so many of a to e.
 pub fn used_words(kind: u32) -> u32
     ensures { (result ≡ used_words kind) × (result ≤ 5) }
 {
-    let u = fields_of(kind);
-    in_use(u.a) + in_use(u.b) + in_use(u.c) + in_use(u.d) + in_use(u.e)
+    let u = fields_by_number(kind);
+    u.a.in_use() + u.b.in_use() + u.c.in_use() + u.d.in_use() + u.e.in_use()
 }
 
 // How many values a row of this kind names.
 pub fn operand_count(kind: u32) -> u32
     ensures { (result ≡ operand_count kind) × (result ≤ 3) }
 {
-    let u = fields_of(kind);
-    named(u.a) + named(u.b) + named(u.c) + named(u.d) + named(u.e)
+    let u = fields_by_number(kind);
+    u.a.named() + u.b.named() + u.c.named() + u.d.named() + u.e.named()
 }
 
 // The word in which the first of them stands.
 fn first_operand(kind: u32) -> u32
     ensures { (result ≡ first_operand kind) × (1 ≤ result) × (result ≤ 2) }
 {
-    1 + coded(fields_of(kind).a)
+    1 + fields_by_number(kind).a.coded()
 }
 
-fn field_at(kind: u32, k: u32) -> u32
-    ensures { field_of result ≡ field_at kind k }
+// The sort that word k of a row of this kind has to name.
+fn wanted_sort(kind: u32, k: u32) -> Sort
+    ensures { sort_number result ≡ wanted_sort kind k }
 {
-    let u = fields_of(kind);
-    match k {
-        1 => u.a,
-        2 => u.b,
-        3 => u.c,
-        4 => u.d,
-        5 => u.e,
-        _ => UNUSED,
-    }
-}
-
-// The sort that word k of a row of this kind has to name: 1 for a flag.
-fn wanted_sort(kind: u32, k: u32) -> u32
-    ensures { result ≡ wanted_sort kind k }
-{
-    match field_at(kind, k) {
-        FLAG => 1,
-        _ => 0,
+    match fields_by_number(kind).at(k) {
+        Field::Flag => Sort::Flag,
+        _ => Sort::Word,
     }
 }
 
@@ -246,24 +283,22 @@ pub fn sort_at(table: &[u32], v: u32) -> u32
     requires { (v < size table.now) × (v < 512) }
     ensures { result ≡ sort_of table.now v }
 {
-    if kind_at(table, v) == OP {
-        if word_at(table, v, 1) >= COMPARISONS {
-            return 1;
-        }
+    if kind_at(table, v) != Kind::Op.number() {
         return 0;
     }
-    0
+    if word_at(table, v, 1) >= COMPARISONS {
+        1
+    } else {
+        0
+    }
 }
 
 // The same of any number; what is no row has the sort 0.
-fn sort_of(table: &[u32], n: u32, v: u32) -> u32
-    requires { (length table.now ≡ 6 * n) × (n ≤ 512) }
+fn sort_of(table: &[u32], size: u32, v: u32) -> u32
+    requires { (length table.now ≡ 6 * size) × (size ≤ 512) }
     ensures { result ≡ sort_of table.now v }
 {
-    if v < n {
-        return sort_at(table, v);
-    }
-    0
+    if v < size { sort_at(table, v) } else { 0 }
 }
 
 // The j-th operand of row r.
@@ -275,595 +310,563 @@ pub fn operand_at(table: &[u32], r: u32, j: u32) -> u32
     table[(6 * r + k) as usize]
 }
 
-// The fault where what should hold does not.
-fn unless(right: bool, fault: u32) -> u32
-    ensures { result ≡ cond right 0 fault }
-{
-    if right { 0 } else { fault }
-}
-
-// What is wrong with a row of this kind behind the row before it, or 0.
-fn follows_fault(before: u32, kind: u32) -> u32
-    ensures { result ≡ follows_fault before kind }
-{
-    if before == OUT {
-        return unless(kind == OUT, BEHIND_OUT);
-    }
-    if before == NEXT {
-        if kind == NEXT {
-            return 0;
-        }
-        return unless(kind == END, BEHIND_NEXT);
-    }
-    if kind <= CONST {
-        return unless(before <= CONST, LATE_START);
-    }
-    if kind == ARG {
-        if before == FOR {
-            return 0;
-        }
-        return unless(before == ARG, LATE_ARG);
-    }
-    0
-}
-
-fn kind_before(table: &[u32], r: u32) -> u32
-    requires { (r ≤ size table.now) × (r ≤ 512) }
-    ensures { result ≡ kind_before table.now r }
-{
-    if r == 0 {
-        return INPUT;
-    }
-    kind_at(table, r - 1)
-}
-
-// The first word of row r that breaks a rule, 1 to 5 for a to e; 0 where none does. So are the other tests of words below.
-pub fn spare_word(table: &[u32], r: u32) -> u32
+// The first word of row r, 1 to 5 for a to e, that its kind does not use and that is not 0.
+pub fn spare_word(table: &[u32], r: u32) -> Option<u32>
     requires { (r < size table.now) × (r < 512) }
-    ensures { result ≡ spare_word table.now r }
+    ensures { FirstWord result (spare_word table.now r) }
 {
-    let mut k = used_words(kind_at(table, r)) + 1;
-    while k < 6 {
+    for k in used_words(kind_at(table, r)) + 1..6 {
         if word_at(table, r, k) != 0 {
-            return k;
+            return Some(k);
         }
-        k += 1;
     }
-    0
+    None
 }
 
-// Word k where it is not right, else what is told of the words behind it.
-fn told_word(right: bool, k: u32, later: u32) -> u32
-    ensures { result ≡ cond right later k }
-{
-    if right { later } else { k }
-}
-
-fn code_word(table: &[u32], r: u32) -> u32
+// The first word of row r that is none of the codes that it may be.
+fn code_word(table: &[u32], r: u32) -> Option<u32>
     requires { (r < size table.now) × (r < 512) }
-    ensures { result ≡ code_word table.now r }
+    ensures { FirstWord result (code_word table.now r) }
 {
-    let u = fields_of(kind_at(table, r));
-    let e = told_word(allows(u.e, word_at(table, r, 5)), 5, 0);
-    let d = told_word(allows(u.d, word_at(table, r, 4)), 4, e);
-    let c = told_word(allows(u.c, word_at(table, r, 3)), 3, d);
-    let b = told_word(allows(u.b, word_at(table, r, 2)), 2, c);
-    told_word(allows(u.a, word_at(table, r, 1)), 1, b)
-}
-
-// Number j of entry d: 0 its first row, 1 its ARGs, 2 its NEXTs.
-fn entry(stack: [[u32; 3]; 8], d: usize, j: usize) -> u32
-    requires { (d < 8) × (j < 3) }
-    ensures { result ≡ get_or (get_or stack d []) j 0 }
-{
-    stack[d][j]
-}
-
-// The innermost body of n rows with d loops open.
-fn inner_body(n: u32, stack: [[u32; 3]; 8], d: usize) -> u32
-    requires { d ≤ 8 }
-    ensures { result ≡ inner n (open_loops stack d) }
-{
-    if d == 0 {
-        return n;
-    }
-    entry(stack, d - 1, 0)
-}
-
-fn depth_outward(d: usize) -> usize
-    ensures { result ≡ d - 1 }
-{
-    if d == 0 {
-        return 0;
-    }
-    d - 1
-}
-
-fn home_body(n: u32, kind: u32, r: u32, stack: [[u32; 3]; 8], d: usize) -> u32
-    requires { d ≤ 8 }
-    ensures { result ≡ home_by n kind r (open_loops stack d) }
-{
-    if kind <= CONST {
-        return n;
-    }
-    if kind == FOR {
-        return r;
-    }
-    if kind == NEXT {
-        return inner_body(n, stack, depth_outward(d));
-    }
-    inner_body(n, stack, d)
-}
-
-fn is_open(b: u32, stack: [[u32; 3]; 8], d: usize) -> bool
-    requires { d ≤ 8 }
-    ensures { result ≡ holds b (open_loops stack d) }
-{
-    let mut k = d;
-    while k > 0 {
-        if entry(stack, k - 1, 0) == b {
-            return true;
+    let fields = fields_by_number(kind_at(table, r));
+    for k in 1..6 {
+        if !fields.at(k).allows(word_at(table, r, k)) {
+            return Some(k);
         }
-        k -= 1;
     }
-    false
+    None
 }
 
-// The ARGs and the NEXTs of the innermost loop so far; none where no loop is open.
-fn args_in(stack: [[u32; 3]; 8], d: usize) -> u32
-    requires { d ≤ 8 }
-    ensures { result ≡ args_in (open_loops stack d) }
-{
-    if d == 0 {
-        return 0;
-    }
-    entry(stack, d - 1, 1)
-}
-
-fn nexts_in(stack: [[u32; 3]; 8], d: usize) -> u32
-    requires { d ≤ 8 }
-    ensures { result ≡ nexts_in (open_loops stack d) }
-{
-    if d == 0 {
-        return 0;
-    }
-    entry(stack, d - 1, 2)
-}
-
-fn next_fault(stack: [[u32; 3]; 8], d: usize) -> u32
-    requires { d ≤ 8 }
-    ensures { result ≡ next_fault (open_loops stack d) }
-{
-    if d == 0 {
-        return LONE_NEXT;
-    }
-    unless(nexts_in(stack, d) < args_in(stack, d), MANY_NEXTS)
-}
-
-fn end_fault(stack: [[u32; 3]; 8], d: usize) -> u32
-    requires { d ≤ 8 }
-    ensures { result ≡ end_fault (open_loops stack d) }
-{
-    if d == 0 {
-        return LONE_END;
-    }
-    unless(nexts_in(stack, d) == args_in(stack, d), EARLY_END)
-}
-
-// What is wrong with a row of this kind among the open loops, or 0.
-fn stands_fault(kind: u32, stack: [[u32; 3]; 8], d: usize) -> u32
-    requires { d ≤ 8 }
-    ensures { result ≡ stands_fault kind (open_loops stack d) }
-{
-    if kind == NEXT {
-        return next_fault(stack, d);
-    }
-    if kind == END {
-        return end_fault(stack, d);
-    }
-    if kind == OUT {
-        return unless(d == 0, INNER_OUT);
-    }
-    0
-}
-
-fn place_fault(table: &[u32], stack: [[u32; 3]; 8], d: usize, r: u32) -> u32
-    requires { (r < size table.now) × (r < 512) × (d ≤ 8) × (open_loops stack d ≡ stack_at table.now r) }
-    ensures { result ≡ place_fault table.now r }
+// The first operand of row r whose sort is not the one that is wanted there.
+fn mistyped_word(table: &[u32], size: u32, r: u32) -> Option<u32>
+    requires { (r < size) × (size ≤ 512) × (length table.now ≡ 6 * size) }
+    ensures { FirstWord result (mistyped_word table.now r) }
 {
     let kind = kind_at(table, r);
-    let before = follows_fault(kind_before(table, r), kind);
-    if before != 0 {
-        return before;
-    }
-    stands_fault(kind, stack, d)
-}
-
-fn depth_right(table: &[u32], d: usize, r: u32) -> bool
-    requires { (r < size table.now) × (r < 512) × (length (stack_at table.now r) ≡ d) }
-    ensures { result ≡ depth_right table.now r }
-{
-    if kind_at(table, r) == FOR {
-        return d < 8;
-    }
-    true
-}
-
-fn body_open(n: u32, b: u32, stack: [[u32; 3]; 8], d: usize) -> bool
-    requires { d ≤ 8 }
-    ensures { result ≡ body_open n b (open_loops stack d) }
-{
-    if b == n {
-        return true;
-    }
-    is_open(b, stack, d)
-}
-
-// How many of d open loops are open where the operands of a row of this kind are read.
-fn read_depth(kind: u32, d: usize) -> usize
-    ensures { (result ≡ cond (eqb kind 5) (d - 1) d) × (result ≤ d) }
-{
-    if kind != ARG {
-        return d;
-    }
-    depth_outward(d)
-}
-
-// What hides value v from row r, or 0.
-fn sight(
-    table: &[u32],
-    homes: &[u32; 512],
-    bodies: &[u32; 512],
-    stack: [[u32; 3]; 8],
-    d: usize,
-    n: u32,
-    r: u32,
-    v: u32,
-) -> u32
-    requires { (r < n) × (n ≡ size table.now) × Noted table.now r homes.now bodies.now stack d }
-    ensures { result ≡ sight table.now r v }
-{
-    if v >= r {
-        return LATER;
-    }
-    let kind = kind_at(table, v);
-    if kind > NEXT {
-        return VALUELESS;
-    }
-    let home = homes[v as usize];
-    if body_open(n, home, stack, read_depth(kind_at(table, r), d)) {
-        if kind == NEXT {
-            return unless(!is_open(bodies[v as usize], stack, d), UNENDED);
+    let first = first_operand(kind);
+    for k in first..first + operand_count(kind) {
+        if sort_of(table, size, word_at(table, r, k)) != wanted_sort(kind, k).number() {
+            return Some(k);
         }
-        return 0;
     }
-    if body_open(n, home, stack, d) {
-        return ENTERED;
-    }
-    CLOSED
+    None
 }
 
-fn hidden_word(
-    table: &[u32],
-    homes: &[u32; 512],
-    bodies: &[u32; 512],
-    stack: [[u32; 3]; 8],
-    d: usize,
-    n: u32,
-    r: u32,
-) -> u32
-    requires { (r < n) × (n ≡ size table.now) × Noted table.now r homes.now bodies.now stack d }
-    ensures { (result ≡ hidden_word table.now r) × (result < 6) }
-{
-    let kind = kind_at(table, r);
-    let mut k = first_operand(kind);
-    let end = k + operand_count(kind);
-    while k < end {
-        if sight(table, homes, bodies, stack, d, n, r, word_at(table, r, k)) != 0 {
-            return k;
-        }
-        k += 1;
-    }
-    0
+// What breaks LENGTH: a row that is not whole, no row, more rows than there may be.
+#[derive(Clone, Copy, Debug, PartialEq, Eq)]
+pub enum LengthFault {
+    SplitRow,
+    NoRow,
+    ManyRows,
 }
 
-fn mistyped_word(table: &[u32], n: u32, r: u32) -> u32
-    requires { (r < n) × (n ≤ 512) × (length table.now ≡ 6 * n) }
-    ensures { result ≡ mistyped_word table.now r }
-{
-    let kind = kind_at(table, r);
-    let mut k = first_operand(kind);
-    let end = k + operand_count(kind);
-    while k < end {
-        if sort_of(table, n, word_at(table, r, k)) != wanted_sort(kind, k) {
-            return k;
-        }
-        k += 1;
-    }
-    0
+// What breaks PLACE: by the row before, something behind an OUT, neither NEXT nor END behind a NEXT, an INPUT or CONST behind another kind, an ARG behind
+// neither FOR nor ARG; by the open loops, a NEXT in no loop, a NEXT more than ARGs, an END of no loop, an END before all NEXTs, an OUT in a loop.
+#[derive(Clone, Copy, Debug, PartialEq, Eq)]
+pub enum PlaceFault {
+    BehindOut,
+    BehindNext,
+    LateStart,
+    LateArg,
+    LoneNext,
+    ManyNexts,
+    LoneEnd,
+    EarlyEnd,
+    InnerOut,
 }
 
-fn row_refusal(
-    table: &[u32],
-    homes: &[u32; 512],
-    bodies: &[u32; 512],
-    stack: [[u32; 3]; 8],
-    d: usize,
-    n: u32,
-    r: u32,
-) -> u32
-    requires { (r < n) × (length table.now ≡ 6 * n) × Noted table.now r homes.now bodies.now stack d }
-    ensures { result ≡ row_refusal table.now r }
-{
-    if kind_at(table, r) > OUT {
-        return KIND;
-    }
-    if spare_word(table, r) != 0 {
-        return SPARE;
-    }
-    if code_word(table, r) != 0 {
-        return CODE;
-    }
-    if place_fault(table, stack, d, r) != 0 {
-        return PLACE;
-    }
-    if depth_right(table, d, r) {} else {
-        return DEPTH;
-    }
-    if hidden_word(table, homes, bodies, stack, d, n, r) != 0 {
-        return NAME;
-    }
-    if mistyped_word(table, n, r) != 0 {
-        return TYPE;
-    }
-    0
+// What hides a value: no earlier row; an END or OUT; a loop that is closed; the loop that an ARG enters; a NEXT whose END has not come. The loop is told by
+// its FOR row.
+#[derive(Clone, Copy, Debug, PartialEq, Eq)]
+pub enum NameFault {
+    Later,
+    Valueless,
+    Closed(u32),
+    Entered(u32),
+    Unended(u32),
 }
 
-// Entry d filled.
-fn with_entry(stack: [[u32; 3]; 8], d: usize, row: u32, args: u32, nexts: u32) -> [[u32; 3]; 8]
-    requires { d < 8 }
-    ensures { open_loops result (d + 1) ≡ entry_of row args nexts ∷ open_loops stack d }
-{
-    let mut s = stack;
-    s[d] = [row, args, nexts];
-    s
+// What breaks OPEN: a loop is open, or none is, so no OUT stands last.
+#[derive(Clone, Copy, Debug, PartialEq, Eq)]
+pub enum OpenFault {
+    Unclosed,
+    Outless,
 }
 
-fn depth_after(kind: u32, d: usize) -> usize
-    requires { (d ≤ 8) × (kind ≡ 4 → d < 8) }
-    ensures { (result ≡ depth_after kind d) × (result ≤ 8) }
-{
-    if kind == FOR {
-        return d + 1;
-    }
-    if kind == END {
-        return depth_outward(d);
-    }
-    d
-}
-
-// The stack behind row r, from the stack before it.
-fn stack_after(kind: u32, r: u32, stack: [[u32; 3]; 8], d: usize) -> [[u32; 3]; 8]
-    requires { (d ≤ 8) × (kind ≡ 4 → d < 8) × Counted 512 (open_loops stack d) }
-    ensures { open_loops result (depth_after kind d) ≡ after kind r (open_loops stack d) }
-{
-    if kind == FOR {
-        return with_entry(stack, d, r, 0, 0);
-    }
-    if d == 0 {
-        return stack;
-    }
-    let e = d - 1;
-    if kind == ARG {
-        return with_entry(
-            stack,
-            e,
-            entry(stack, e, 0),
-            entry(stack, e, 1) + 1,
-            entry(stack, e, 2),
-        );
-    }
-    if kind == NEXT {
-        return with_entry(
-            stack,
-            e,
-            entry(stack, e, 0),
-            entry(stack, e, 1),
-            entry(stack, e, 2) + 1,
-        );
-    }
-    stack
-}
-
-fn end_right(table: &[u32], d: usize, n: u32) -> bool
-    requires { (n ≡ size table.now) × (n ≤ 512) × (outside (stack_at table.now n) ≡ eqb d 0) }
-    ensures { result ≡ end_right table.now }
-{
-    if d == 0 {
-        return kind_before(table, n) == OUT;
-    }
-    false
-}
-
-// What a check tells: a refusal's number and row, 0 and 0 where there is none, and which clause is broken. `word` is 0 for the kind, 1 to 5 for
-// a to e; `body` is the FOR row of the loop that matters, the row count where no loop is open, and 0 where no loop is told; `args` and `nexts` are
-// those of the innermost open loop for PLACE, DEPTH and OPEN, else 0.
-#[derive(Clone, Copy)]
-pub struct Clause {
-    pub number: u32,
-    pub row: u32,
-    pub fault: u32,
-    pub word: u32,
+// The innermost open loop: its FOR row, which is the row count where no loop is open, and its ARGs and NEXTs so far.
+#[derive(Clone, Copy, Debug, PartialEq, Eq)]
+pub struct Innermost {
     pub body: u32,
     pub args: u32,
     pub nexts: u32,
 }
 
-// A clause that one word breaks.
-fn by_word(number: u32, row: u32, fault: u32, word: u32, body: u32) -> Clause
-    ensures { (result.number ≡ number) × (result.row ≡ row) × (detail result.fault result.word result.body result.args result.nexts ≡ detail fault word body 0 0) }
-{
-    Clause {
-        number,
-        row,
-        fault,
-        word,
-        body,
-        args: 0,
-        nexts: 0,
-    }
+// The clause that is broken, by refusal. A number beside it is the word, 1 to 5 for a to e.
+#[derive(Clone, Copy, Debug, PartialEq, Eq)]
+pub enum Broken {
+    Length(LengthFault),
+    Kind,
+    Spare(u32),
+    Code(u32),
+    Place(PlaceFault, Innermost),
+    Depth(Innermost),
+    Name(u32, NameFault),
+    // The sort that is wanted.
+    Type(u32, Sort),
+    Open(OpenFault, Innermost),
 }
 
-// A clause about the innermost loop.
-fn by_loop(number: u32, row: u32, fault: u32, n: u32, stack: [[u32; 3]; 8], d: usize) -> Clause
-    requires { d ≤ 8 }
-    ensures { (result.number ≡ number) × (result.row ≡ row) × (detail result.fault result.word result.body result.args result.nexts ≡ detail fault 0 (inner n (open_loops stack d)) (args_in (open_loops stack d)) (nexts_in (open_loops stack d))) }
-{
-    Clause {
-        number,
-        row,
-        fault,
-        word: 0,
-        body: inner_body(n, stack, d),
-        args: args_in(stack, d),
-        nexts: nexts_in(stack, d),
-    }
-}
-
-// The loop that a hidden value belongs to.
-fn hidden_body(homes: &[u32; 512], bodies: &[u32; 512], fault: u32, v: u32) -> u32
-    requires { (length homes.now ≡ 512) × (length bodies.now ≡ 512) × (3 ≤ fault → v < 512) }
-    ensures { result ≡ cond (ltb fault 3) 0 (cond (eqb fault 5) (get_or bodies.now v 0) (get_or homes.now v 0)) }
-{
-    if fault < CLOSED {
-        return 0;
-    }
-    if fault == UNENDED {
-        return bodies[v as usize];
-    }
-    homes[v as usize]
-}
-
-fn by_name(
-    table: &[u32],
-    homes: &[u32; 512],
-    bodies: &[u32; 512],
-    stack: [[u32; 3]; 8],
-    d: usize,
-    n: u32,
-    r: u32,
-) -> Clause
-    requires { (r < n) × (n ≡ size table.now) × Noted table.now r homes.now bodies.now stack d }
-    ensures { (result.number ≡ 7) × (result.row ≡ r) × (detail result.fault result.word result.body result.args result.nexts ≡ name_detail table.now r) }
-{
-    let k = hidden_word(table, homes, bodies, stack, d, n, r);
-    let v = word_at(table, r, k);
-    let fault = sight(table, homes, bodies, stack, d, n, r, v);
-    by_word(NAME, r, fault, k, hidden_body(homes, bodies, fault, v))
-}
-
-fn by_type(table: &[u32], n: u32, r: u32) -> Clause
-    requires { (r < n) × (n ≤ 512) × (length table.now ≡ 6 * n) }
-    ensures { (result.number ≡ 8) × (result.row ≡ r) × (detail result.fault result.word result.body result.args result.nexts ≡ detail (wanted_sort (kind_at table.now r) (mistyped_word table.now r)) (mistyped_word table.now r) 0 0 0) }
-{
-    let k = mistyped_word(table, n, r);
-    by_word(TYPE, r, wanted_sort(kind_at(table, r), k), k, 0)
-}
-
-// The clause of row r that a refusal's number is about.
-fn row_clause(
-    table: &[u32],
-    homes: &[u32; 512],
-    bodies: &[u32; 512],
-    stack: [[u32; 3]; 8],
-    d: usize,
-    n: u32,
-    r: u32,
-    number: u32,
-) -> Clause
-    requires { (r < n) × (length table.now ≡ 6 * n) × (number ≡ row_refusal table.now r) × Noted table.now r homes.now bodies.now stack d }
-    ensures { (result.number ≡ number) × (result.row ≡ r) × (detail result.fault result.word result.body result.args result.nexts ≡ explained table.now number r) }
-{
-    match number {
-        SPARE => by_word(SPARE, r, 0, spare_word(table, r), 0),
-        CODE => by_word(CODE, r, 0, code_word(table, r), 0),
-        PLACE => by_loop(PLACE, r, place_fault(table, stack, d, r), n, stack, d),
-        DEPTH => by_loop(DEPTH, r, 0, n, stack, d),
-        NAME => by_name(table, homes, bodies, stack, d, n, r),
-        TYPE => by_type(table, n, r),
-        _ => by_word(number, r, 0, 0, 0),
-    }
-}
-
-fn open_clause(n: u32, stack: [[u32; 3]; 8], d: usize) -> Clause
-    requires { d ≤ 8 }
-    ensures { (result.number ≡ 9) × (result.row ≡ n) × (detail result.fault result.word result.body result.args result.nexts ≡ detail (cond (outside (open_loops stack d)) 2 1) 0 (inner n (open_loops stack d)) (args_in (open_loops stack d)) (nexts_in (open_loops stack d))) }
-{
-    if d == 0 {
-        return by_loop(OPEN, n, OUTLESS, n, stack, d);
-    }
-    by_loop(OPEN, n, UNCLOSED, n, stack, d)
-}
-
-fn rows_told(table: &[u32], n: u32) -> Clause
-    requires { (length table.now ≡ 6 * n) × (n ≤ 512) }
-    ensures { (answer result.number result.row ≡ rows_from n table.now 0) × (detail result.fault result.word result.body result.args result.nexts ≡ explained table.now result.number result.row) }
-{
-    let mut homes = [0u32; 512];
-    let mut bodies = [0u32; 512];
-    let mut stack = [[0u32; 3]; 8];
-    let mut d: usize = 0;
-    let mut i: u32 = 0;
-    while i < n {
-        let number = row_refusal(table, &homes, &bodies, stack, d, n, i);
-        if number != 0 {
-            return row_clause(table, &homes, &bodies, stack, d, n, i, number);
+impl Broken {
+    pub fn refusal(self) -> Refusal
+        ensures { number_of result ≡ broken_number self }
+    {
+        match self {
+            Broken::Length(_) => Refusal::Length,
+            Broken::Kind => Refusal::Kind,
+            Broken::Spare(_) => Refusal::Spare,
+            Broken::Code(_) => Refusal::Code,
+            Broken::Place(_, _) => Refusal::Place,
+            Broken::Depth(_) => Refusal::Depth,
+            Broken::Name(_, _) => Refusal::Name,
+            Broken::Type(_, _) => Refusal::Type,
+            Broken::Open(_, _) => Refusal::Open,
         }
-        let kind = kind_at(table, i);
-        homes[i as usize] = home_body(n, kind, i, stack, d);
-        bodies[i as usize] = inner_body(n, stack, d);
-        let next = stack_after(kind, i, stack, d);
-        stack = next;
-        d = depth_after(kind, d);
-        i += 1;
     }
-    if end_right(table, d, n) {
-        return by_word(0, 0, 0, 0, 0);
+}
+
+// What a check tells of a table that it refuses: the row, and which clause is broken there.
+#[derive(Clone, Copy, Debug, PartialEq, Eq)]
+pub struct Clause {
+    pub row: u32,
+    pub broken: Broken,
+}
+
+impl fmt::Display for Clause {
+    fn fmt<W: fmt::Write>(&self, f: &mut fmt::Formatter<W>) -> fmt::Result {
+        write!(f, "{} at row {}", self.broken.refusal(), self.row)
     }
-    open_clause(n, stack, d)
+}
+
+impl Error for Clause {}
+
+impl From<Clause> for Refused {
+    ghost from_gives = { Answers };
+
+    fn from(clause: Clause) -> Refused {
+        Refused {
+            why: clause.broken.refusal(),
+            row: clause.row,
+        }
+    }
+}
+
+// An open loop: its FOR row, and its ARGs and NEXTs so far.
+#[derive(Clone, Copy)]
+struct OpenLoop {
+    row: u32,
+    args: u32,
+    nexts: u32,
+}
+
+// The open loops, the innermost last.
+#[derive(Clone, Copy)]
+struct OpenLoops {
+    entries: [OpenLoop; 8],
+    depth: usize,
+}
+
+impl OpenLoops {
+    fn innermost(self) -> Option<OpenLoop>
+        requires { self.depth ≤ 8 }
+        ensures { MatchOption result (loops_of self ≡ []) (λ last. (loops_of self ≡ loop_of last ∷ outward (loops_of self)) × (1 ≤ self.depth)) }
+    {
+        if self.depth == 0 {
+            return None;
+        }
+        Some(self.entries[self.depth - 1])
+    }
+
+    // Those around the innermost one.
+    fn outward(self) -> OpenLoops
+        requires { self.depth ≤ 8 }
+        ensures { (loops_of result ≡ outward (loops_of self)) × (result.depth ≡ self.depth - 1) }
+    {
+        let entries = self.entries;
+        OpenLoops {
+            entries,
+            depth: self.depth.saturating_sub(1),
+        }
+    }
+
+    // One loop more.
+    fn inward(self, last: OpenLoop) -> OpenLoops
+        requires { self.depth < 8 }
+        ensures { (loops_of result ≡ loop_of last ∷ loops_of self) × (result.depth ≤ 8) }
+    {
+        let mut entries = self.entries;
+        entries[self.depth] = last;
+        OpenLoops {
+            entries,
+            depth: self.depth + 1,
+        }
+    }
+
+    fn holds(self, row: u32) -> bool
+        requires { self.depth ≤ 8 }
+        ensures { result ≡ holds row (loops_of self) }
+    {
+        for k in 0..self.depth {
+            if self.entries[k].row == row {
+                return true;
+            }
+        }
+        false
+    }
+
+    // Behind row r, from those before it.
+    fn behind(self, kind: Kind, r: u32) -> OpenLoops
+        requires { (self.depth ≤ 8) × (kind ≡ For → self.depth < 8) × Counted 512 (loops_of self) }
+        ensures { (loops_of result ≡ after (kind_number kind) r (loops_of self)) × (result.depth ≤ 8) }
+    {
+        match kind {
+            Kind::For => self.inward(OpenLoop {
+                row: r,
+                args: 0,
+                nexts: 0,
+            }),
+            Kind::End => self.outward(),
+            Kind::Arg => match self.innermost() {
+                None => self,
+                Some(l) => self.outward().inward(OpenLoop {
+                    row: l.row,
+                    args: l.args + 1,
+                    nexts: l.nexts,
+                }),
+            },
+            Kind::Next => match self.innermost() {
+                None => self,
+                Some(l) => self.outward().inward(OpenLoop {
+                    row: l.row,
+                    args: l.args,
+                    nexts: l.nexts + 1,
+                }),
+            },
+            _ => self,
+        }
+    }
+}
+
+// What is noted of a row that was passed: the bodies in which its value is at home and in which it stands.
+#[derive(Clone, Copy)]
+struct Place {
+    home: u32,
+    body: u32,
+}
+
+// What the check has noted when it comes to a row: the row count, the kind of the row before, the places of the rows before, the open loops. A body is told by
+// its FOR row, the outermost one by the row count.
+#[derive(Drop)]
+struct Notes {
+    size: u32,
+    before: Kind,
+    places: [Place; 512],
+    loops: OpenLoops,
+}
+
+impl Notes {
+    // Before the first row, which stands as if behind an INPUT.
+    fn new(size: u32) -> Notes
+        ensures { (t : List ℕ) → length t ≡ 6 * size → size ≤ 512 → Noted t 0 result }
+    {
+        let unopened = OpenLoop {
+            row: 0,
+            args: 0,
+            nexts: 0,
+        };
+        Notes {
+            size,
+            before: Kind::Input,
+            places: [Place { home: 0, body: 0 }; 512],
+            loops: OpenLoops {
+                entries: [unopened; 8],
+                depth: 0,
+            },
+        }
+    }
+
+    // The innermost of these bodies.
+    fn inner(&self, loops: OpenLoops) -> u32
+        requires { loops.depth ≤ 8 }
+        ensures { result ≡ inner self.now.size (loops_of loops) }
+    {
+        match loops.innermost() {
+            None => self.size,
+            Some(last) => last.row,
+        }
+    }
+
+    fn innermost(&self) -> Innermost
+        requires { self.now.loops.depth ≤ 8 }
+        ensures { (result.body ≡ inner self.now.size (loops_of self.now.loops)) × (result.args ≡ args_in (loops_of self.now.loops)) × (result.nexts ≡ nexts_in (loops_of self.now.loops)) }
+    {
+        match self.loops.innermost() {
+            None => Innermost {
+                body: self.size,
+                args: 0,
+                nexts: 0,
+            },
+            Some(last) => Innermost {
+                body: last.row,
+                args: last.args,
+                nexts: last.nexts,
+            },
+        }
+    }
+
+    fn body_open(&self, body: u32, loops: OpenLoops) -> bool
+        requires { loops.depth ≤ 8 }
+        ensures { result ≡ body_open self.now.size body (loops_of loops) }
+    {
+        body == self.size || loops.holds(body)
+    }
+
+    // The body in which the value of row r, of this kind, is at home.
+    fn home(&self, kind: Kind, r: u32) -> u32
+        requires { self.now.loops.depth ≤ 8 }
+        ensures { result ≡ home_by self.now.size (kind_number kind) r (loops_of self.now.loops) }
+    {
+        match kind {
+            Kind::Input | Kind::Const => self.size,
+            Kind::For => r,
+            Kind::Next => self.inner(self.loops.outward()),
+            _ => self.inner(self.loops),
+        }
+    }
+
+    // What is wrong with a row of this kind behind the row before it.
+    fn follows(&self, kind: Kind) -> Option<PlaceFault>
+        ensures { placed result ≡ follows_fault (kind_number self.now.before) (kind_number kind) }
+    {
+        match self.before {
+            Kind::Out => match kind {
+                Kind::Out => None,
+                _ => Some(PlaceFault::BehindOut),
+            },
+            Kind::Next => match kind {
+                Kind::Next | Kind::End => None,
+                _ => Some(PlaceFault::BehindNext),
+            },
+            Kind::Input | Kind::Const => match kind {
+                Kind::Arg => Some(PlaceFault::LateArg),
+                _ => None,
+            },
+            Kind::For | Kind::Arg => match kind {
+                Kind::Input | Kind::Const => Some(PlaceFault::LateStart),
+                _ => None,
+            },
+            Kind::Op | Kind::Pick | Kind::End => match kind {
+                Kind::Input | Kind::Const => Some(PlaceFault::LateStart),
+                Kind::Arg => Some(PlaceFault::LateArg),
+                _ => None,
+            },
+        }
+    }
+
+    // What is wrong with it among the open loops.
+    fn stands(&self, kind: Kind) -> Option<PlaceFault>
+        requires { self.now.loops.depth ≤ 8 }
+        ensures { placed result ≡ stands_fault (kind_number kind) (loops_of self.now.loops) }
+    {
+        match kind {
+            Kind::Next => match self.loops.innermost() {
+                None => Some(PlaceFault::LoneNext),
+                Some(last) if last.nexts < last.args => None,
+                Some(_) => Some(PlaceFault::ManyNexts),
+            },
+            Kind::End => match self.loops.innermost() {
+                None => Some(PlaceFault::LoneEnd),
+                Some(last) if last.nexts == last.args => None,
+                Some(_) => Some(PlaceFault::EarlyEnd),
+            },
+            Kind::Out => match self.loops.innermost() {
+                None => None,
+                Some(_) => Some(PlaceFault::InnerOut),
+            },
+            _ => None,
+        }
+    }
+
+    fn place(&self, kind: Kind) -> Option<PlaceFault>
+        requires { self.now.loops.depth ≤ 8 }
+        ensures { (t : List ℕ) → (r : ℕ) → kind_number kind ≡ kind_at t r → kind_number self.now.before ≡ kind_before t r → loops_of self.now.loops ≡ stack_at t r → placed result ≡ place_fault t r }
+    {
+        match self.follows(kind) {
+            Some(fault) => Some(fault),
+            None => self.stands(kind),
+        }
+    }
+
+    // A FOR needs an entry that is left.
+    fn depth_right(&self, kind: Kind) -> bool
+        ensures { (t : List ℕ) → (r : ℕ) → kind_number kind ≡ kind_at t r → loops_of self.now.loops ≡ stack_at t r → result ≡ depth_right t r }
+    {
+        match kind {
+            Kind::For => self.loops.depth < MOST_LOOPS,
+            _ => true,
+        }
+    }
+
+    // The loops that are open where the operands of a row of this kind are read.
+    fn read_loops(&self, kind: Kind) -> OpenLoops
+        requires { self.now.loops.depth ≤ 8 }
+        ensures { (loops_of result ≡ cond (eqb (kind_number kind) 5) (outward (loops_of self.now.loops)) (loops_of self.now.loops)) × (result.depth ≤ 8) }
+    {
+        match kind {
+            Kind::Arg => self.loops.outward(),
+            _ => self.loops,
+        }
+    }
+
+    // What hides value v from row r.
+    fn sight(&self, table: &[u32], kind: Kind, r: u32, v: u32) -> Option<NameFault>
+        requires { Noted table.now r self.now × (r < self.now.size) × (kind_number kind ≡ kind_at table.now r) }
+        ensures { (seen result ≡ sight table.now r v) × (hidden_by result ≡ hidden_body table.now (sight table.now r v) v) }
+    {
+        if v >= r {
+            return Some(NameFault::Later);
+        }
+        let named = kind_at(table, v);
+        if named > Kind::Next.number() {
+            return Some(NameFault::Valueless);
+        }
+        let place = self.places[v as usize];
+        if self.body_open(place.home, self.read_loops(kind)) {
+            if named != Kind::Next.number() {
+                return None;
+            }
+            if self.loops.holds(place.body) {
+                return Some(NameFault::Unended(place.body));
+            }
+            return None;
+        }
+        if self.body_open(place.home, self.loops) {
+            return Some(NameFault::Entered(place.home));
+        }
+        Some(NameFault::Closed(place.home))
+    }
+
+    // That each operand of row r is visible.
+    fn check_names(&self, table: &[u32], kind: Kind, r: u32) -> Result<(), Broken>
+        requires { Noted table.now r self.now × (r < self.now.size) × (kind_number kind ≡ kind_at table.now r) }
+        ensures { MatchResult result (λ x. hidden_word table.now r ≡ 0) (λ b. (broken_number b ≡ 7) × (hidden_word table.now r ≢ 0) × (broken_detail b ≡ name_detail table.now r)) }
+    {
+        let first = first_operand(kind.number());
+        for k in first..first + operand_count(kind.number()) {
+            if let Some(fault) = self.sight(table, kind, r, word_at(table, r, k)) {
+                return Err(Broken::Name(k, fault));
+            }
+        }
+        Ok(())
+    }
+
+    // The rules 2 to 8 in their order on row r, whose kind is answered.
+    fn check_row(&self, table: &[u32], r: u32) -> Result<Kind, Broken>
+        requires { Noted table.now r self.now × (r < self.now.size) }
+        ensures { Checks table.now r result }
+    {
+        let Ok(kind) = Kind::try_from(kind_at(table, r)) else {
+            return Err(Broken::Kind);
+        };
+        if let Some(word) = spare_word(table, r) {
+            return Err(Broken::Spare(word));
+        }
+        if let Some(word) = code_word(table, r) {
+            return Err(Broken::Code(word));
+        }
+        if let Some(fault) = self.place(kind) {
+            return Err(Broken::Place(fault, self.innermost()));
+        }
+        if !self.depth_right(kind) {
+            return Err(Broken::Depth(self.innermost()));
+        }
+        self.check_names(table, kind, r)?;
+        if let Some(word) = mistyped_word(table, self.size, r) {
+            return Err(Broken::Type(word, wanted_sort(kind.number(), word)));
+        }
+        Ok(kind)
+    }
+
+    // Row r, of this kind, was passed.
+    fn note(&mut self, kind: Kind, r: u32)
+        requires { (r < 512) × (self.old.loops.depth ≤ 8) × (kind ≡ For → self.old.loops.depth < 8) × Counted 512 (loops_of self.old.loops) }
+        ensures { (t : List ℕ) → Noted t r self.old → r < self.old.size → kind_number kind ≡ kind_at t r → Noted t (r + 1) self.new × (self.new.size ≡ self.old.size) }
+    {
+        let home = self.home(kind, r);
+        let body = self.inner(self.loops);
+        self.places[r as usize] = Place { home, body };
+        self.loops = self.loops.behind(kind, r);
+        self.before = kind;
+    }
+
+    // That no loop is open behind the last row, and that it is an OUT.
+    fn check_end(&self) -> Result<(), Clause>
+        requires { self.now.loops.depth ≤ 8 }
+        ensures { (t : List ℕ) → Noted t self.now.size self.now → (answer (told_number result) (told_row result) ≡ rows_from 0 t self.now.size) × (told_detail result ≡ explained t (told_number result) (told_row result)) }
+    {
+        if self.loops.depth > 0 {
+            return Err(Clause {
+                row: self.size,
+                broken: Broken::Open(OpenFault::Unclosed, self.innermost()),
+            });
+        }
+        match self.before {
+            Kind::Out => Ok(()),
+            _ => Err(Clause {
+                row: self.size,
+                broken: Broken::Open(OpenFault::Outless, self.innermost()),
+            }),
+        }
+    }
+}
+
+fn tell_each(table: &[u32], size: u32) -> Result<(), Clause>
+    requires { (length table.now ≡ 6 * size) × (size ≤ 512) }
+    ensures { (answer (told_number result) (told_row result) ≡ rows_from size table.now 0) × (told_detail result ≡ explained table.now (told_number result) (told_row result)) }
+{
+    let mut notes = Notes::new(size);
+    for row in 0..size {
+        match notes.check_row(table, row) {
+            Err(broken) => return Err(Clause { row, broken }),
+            Ok(kind) => notes.note(kind, row),
+        }
+    }
+    notes.check_end()
 }
 
 // The check of a table's rows, refusals 1 to 9, with the clause that is broken.
-pub fn tell_rows(table: &[u32]) -> Clause
-    ensures { Told table.now result.number result.row result.fault result.word result.body result.args result.nexts }
+pub fn tell_rows(table: &[u32]) -> Result<(), Clause>
+    ensures { Told table.now (told_number result) (told_row result) (told_fault result) (told_word result) (told_body result) (told_args result) (told_nexts result) }
 {
-    let n = table.len() / 6;
-    if table.len() % 6 != 0 {
-        return by_word(LENGTH, 0, SPLIT_ROW, 0, 0);
-    }
-    if n < 1 {
-        return by_word(LENGTH, 0, NO_ROW, 0, 0);
-    }
-    if n > 512 {
-        return by_word(LENGTH, 0, MANY_ROWS, 0, 0);
-    }
-    rows_told(table, n as u32)
+    let size = table.len() / 6;
+    let fault = if table.len() % 6 != 0 {
+        LengthFault::SplitRow
+    } else if size < 1 {
+        LengthFault::NoRow
+    } else if size > MOST_ROWS {
+        LengthFault::ManyRows
+    } else {
+        return tell_each(table, size as u32);
+    };
+    Err(Clause {
+        row: 0,
+        broken: Broken::Length(fault),
+    })
 }
 
-// What a check answers: a refusal's number and row, or 0 and 0.
-#[derive(Clone, Copy)]
-pub struct Checked {
-    pub number: u32,
-    pub row: u32,
-}
-
-// The check of a table's rows: refusals 1 to 9.
-pub fn check_rows(table: &[u32]) -> Checked
-    ensures { answer result.number result.row ≡ table_refusal table.now }
+// The check of a table's rows: refusals 1 to 9, with the row.
+pub fn check_rows(table: &[u32]) -> Result<(), Refused>
+    ensures { answer (refused_number result) (refused_row result) ≡ table_refusal table.now }
 {
-    let told = tell_rows(table);
-    Checked {
-        number: told.number,
-        row: told.row,
-    }
+    tell_rows(table)?;
+    Ok(())
 }

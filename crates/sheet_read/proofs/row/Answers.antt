@@ -1,8 +1,10 @@
 -- `sheet_read::row` meets its contract. The start, the kind or a word stops, or the row is read and the words behind its last are 0. Assumes nothing.
+use Prim.Native.Nat.{◌+◌}
 use mathlib.Core.Path.{◌∙◌}
 use native.Mathlib.Omega.{arith}
 use lib.ListN.{length-set}
 use Rattle.sheet_read.proofs.Tables.{row_no_start, row_no_kind, row_no_words, row_read}
+use Rattle.sheet_read.proofs.Storing.{cleared}
 use Rattle.sheet_read.proofs.row.Goals as goal
 
 pub returns-in_default : goal.returns-in_default
@@ -24,13 +26,8 @@ shape_of-out-in_default-w c = c.words-w.auto.out ∙ length-set c.args.out.now c
 pub returns-in_default-w : goal.returns-in_default-w
 returns-in_default-w c = row_no_words c.args.text.now c.args.at c.args.r _ _ _ c.start-s.ensures c.in-Word.is c.kind_at-k.ensures c.in-Word-k.is c.used_words-used.ensures.0 c.words-w.ensures c.in_default-w.in_default-w-own.keys2
 
-pub clear-requires : goal.clear-requires
-clear-requires c = let u = c.used_words-used.ensures.1 in let h = c.requires.1 in
-    let e = c.words-w.auto.out ∙ length-set c.args.out.now c.args.to c.in-Word-k.kind in (omega arith, omega arith)
-
-pub shape_of-out : goal.shape_of-out
-shape_of-out c = c.clear.auto.out ∙ (c.words-w.auto.out ∙ length-set c.args.out.now c.args.to c.in-Word-k.kind)
-
 pub returns : goal.returns
-returns c = row_read c.args.text.now c.args.at c.args.r _ _ _ c.start-s.ensures c.in-Word.is c.kind_at-k.ensures c.in-Word-k.is c.used_words-used.ensures.0
-    c.words-w.result c.words-w.ensures c.in-Word-w.in-Word-w-own.keys1 c.clear.ensures
+returns c = let u = c.used_words-used.ensures.1 in let h = c.requires.1 in
+    let e = c.words-w.auto.out ∙ length-set c.args.out.now c.args.to c.in-Word-k.kind in
+    row_read c.args.text.now c.args.at c.args.r _ _ _ c.start-s.ensures c.in-Word.is c.kind_at-k.ensures c.in-Word-k.is c.used_words-used.ensures.0
+    c.words-w.result c.words-w.ensures c.in-Word-w.in-Word-w-own.keys1 (cleared c.words-w.new.out (c.args.to + 1 + c.used_words-used.result) _ (c.fill.ensures.after (λ y q. q)) (omega arith))

@@ -15,12 +15,6 @@ put_row-p-requires c = let v = c.loop-r.invariant in let q = c.requires in
     let t = c.args.table.now in let n = c.args.n in let r = c.loop-r.r in let e = v.1 in
     (omega arith, omega arith, rw e (left_room v.2 (row_text t r) (rows_text (n - (r + 1)) t (r + 1)) (rows_go t n r c.loop-r-test.true) q.2))
 
-pub overflow_add-r : goal.overflow_add-r
-overflow_add-r c = omega arith
-
-pub loop-r-smaller : goal.loop-r-smaller
-loop-r-smaller c = omega arith
-
 pub loop-r-preserved : goal.loop-r-preserved
 loop-r-preserved c = let v = c.loop-r.invariant in
     let t = c.args.table.now in let n = c.args.n in let r = c.loop-r.r in

@@ -7,6 +7,3 @@ use Rattle.sheet_written.proofs.put_rows.Given as goal
 
 abbrev pub invariant-loop-r : goal.invariant-loop-r
 invariant-loop-r l = (l.r ≤ l.n) × (length l.out ≡ length l.initial.out) × Left l.initial.out l.at (rows_text l.n l.table 0) l.out l.p (rows_text (l.n - l.r) l.table l.r)
-
-abbrev pub decreases-loop-r : goal.decreases-loop-r
-decreases-loop-r l = l.n - l.r

@@ -10,19 +10,13 @@ use Rattle.sheet_written.proofs.put_words.Goals as goal
 pub loop-k-init : goal.loop-k-init
 loop-k-init c = (omega arith, omega arith, refl, left_all _ _ (words_all _ _ _))
 
-pub word_at-v-requires : goal.word_at-v-requires
-word_at-v-requires c = let p = c.requires in (p.0, p.1, omega arith)
+pub word_at-requires : goal.word_at-requires
+word_at-requires c = let p = c.requires in (p.0, p.1, omega arith)
 
 pub put_word-p-requires : goal.put_word-p-requires
 put_word-p-requires c = let v = c.loop-k.invariant in
     let t = c.args.table.now in let r = c.args.r in let u = c.args.used in let k = c.loop-k.k in let e = v.2 in
-    (omega arith, rw e (left_room v.3 (line_of (word_key k) (decimal c.word_at-v.result)) (words_text (u + 1 - (k + 1)) t r (k + 1)) (words_go t r u k c.loop-k-test.true c.word_at-v.ensures) c.requires.3))
-
-pub overflow_add-k : goal.overflow_add-k
-overflow_add-k c = omega arith
-
-pub loop-k-smaller : goal.loop-k-smaller
-loop-k-smaller c = omega arith
+    (omega arith, rw e (left_room v.3 (line_of (word_key k) (decimal c.word_at.result)) (words_text (u + 1 - (k + 1)) t r (k + 1)) (words_go t r u k (omega arith) c.word_at.ensures) c.requires.3))
 
 pub loop-k-preserved : goal.loop-k-preserved
 loop-k-preserved c = let v = c.loop-k.invariant in
@@ -30,11 +24,11 @@ loop-k-preserved c = let v = c.loop-k.invariant in
       omega arith,
       omega arith,
       c.put_word-p.auto.out ∙ v.2,
-      left_less v.3 (line_of (word_key k) (decimal c.word_at-v.result)) (words_text (u + 1 - (k + 1)) t r (k + 1)) (words_go t r u k c.loop-k-test.true c.word_at-v.ensures) c.put_word-p.ensures,
+      left_less v.3 (line_of (word_key k) (decimal c.word_at.result)) (words_text (u + 1 - (k + 1)) t r (k + 1)) (words_go t r u k (omega arith) c.word_at.ensures) c.put_word-p.ensures,
     )
 
 pub shape_of-out : goal.shape_of-out
 shape_of-out c = c.loop-k.invariant.2
 
 pub returns : goal.returns
-returns c = left_none c.loop-k.invariant.3 (words_none _ _ _ _ c.loop-k-test.false)
+returns c = left_none c.loop-k.invariant.3 (words_none _ _ _ _ (omega arith))

@@ -7,6 +7,3 @@ use Rattle.sheet_written.proofs.put_words.Given as goal
 
 abbrev pub invariant-loop-k : goal.invariant-loop-k
 invariant-loop-k l = (1 ≤ l.k) × (l.k ≤ l.used + 1) × (length l.out ≡ length l.initial.out) × Left l.initial.out l.at (words_text l.used l.table l.r 1) l.out l.p (words_text (l.used + 1 - l.k) l.table l.r l.k)
-
-abbrev pub decreases-loop-k : goal.decreases-loop-k
-decreases-loop-k l = l.used + 1 - l.k

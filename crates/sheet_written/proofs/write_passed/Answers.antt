@@ -19,8 +19,8 @@ pub slice_bounds-put_bytes-end : goal.slice_bounds-put_bytes-end
 slice_bounds-put_bytes-end c = let f = page_long c.args.table.now 65536 c.args.n c.requires.0 c.requires.1 (omega arith) c.put_sheet-long.ensures in
     sym (length-take-le _ _ (omega arith))
 
-pub put_bytes-written-requires : goal.put_bytes-written-requires
-put_bytes-written-requires c = let l = c.if-text-long.false in simp length-take (omega arith)
+pub put_bytes-requires : goal.put_bytes-requires
+put_bytes-requires c = let l = c.if-text-long.false in simp length-take (omega arith)
 
 pub returns : goal.returns
-returns c = sheet_written_lem c.args.table.now c.args.text.now c.requires.2 (page_front c.args.table.now 65536 c.args.n c.requires.0 c.requires.1 (omega arith) c.put_sheet-long.ensures) c.put_sheet-long.ensures.1 c.if-text-long.false c.put_bytes-written.ensures
+returns c = sheet_written_lem c.args.table.now c.args.text.now c.requires.2 (page_front c.args.table.now 65536 c.args.n c.requires.0 c.requires.1 (omega arith) c.put_sheet-long.ensures) c.put_sheet-long.ensures.1 c.if-text-long.false c.put_bytes.ensures

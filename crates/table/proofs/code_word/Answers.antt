@@ -1,21 +1,23 @@
--- `table::code_word` meets its contract. From the last word back, each is told where it is no code. Assumes nothing.
-use Rattle.table.proofs.Words.{one_told, first_of_five}
+-- `table::code_word` meets its contract. Invariant: the words from k on decide the answer. Assumes nothing.
+use Rattle.table.proofs.Words.{first_go, first_stop, first_end}
+use Rattle.table.specs.Rows.{field_at}
 use Rattle.table.specs.Clauses.{code_word}
 use Rattle.table.specs.Check.{is_code}
-use Rattle.table.specs.Rows.{Fields}
-use mathlib.Core.Path.{ap}
+use native.Mathlib.Omega.{arith}
+use mathlib.Core.Path.{refl, sym, ◌∙◌}
 use Rattle.table.proofs.code_word.Goals as goal
 
-pub returns : goal.returns
+pub loop-k-init : goal.loop-k-init
 unfolding code_word
-returns c = let t = c.args.table.now in
-    let r = c.args.r in
-    let k = c.kind_at.ensures in
-    let q = c.fields_of-u.ensures in
-    let u = c.fields_of-u.result in
-    first_of_five (is_code t r)
-    (one_told t r 5 u.e 0 k (ap (λ (x : Fields). x.e) q) c.word_at.ensures c.allows.ensures c.told_word-e.ensures)
-    (one_told t r 4 u.d c.told_word-e.result k (ap (λ (x : Fields). x.d) q) c.word_at-2.ensures c.allows-2.ensures c.told_word-d.ensures)
-    (one_told t r 3 u.c c.told_word-d.result k (ap (λ (x : Fields). x.c) q) c.word_at-3.ensures c.allows-3.ensures c.told_word-c.ensures)
-    (one_told t r 2 u.b c.told_word-c.result k (ap (λ (x : Fields). x.b) q) c.word_at-4.ensures c.allows-4.ensures c.told_word-b.ensures)
-    (one_told t r 1 u.a c.told_word-b.result k (ap (λ (x : Fields). x.a) q) c.word_at-5.ensures c.allows-5.ensures c.told_word.ensures)
+loop-k-init c = refl
+
+pub returns-then-not-allows : goal.returns-then-not-allows
+unfolding field_at
+returns-then-not-allows c = let a = c.args in (sym (first_stop (is_code a.table.now a.r) 6 _ (omega arith) (rw (← c.word_at.ensures, ← c.kind_at.ensures, ← c.fields_by_number-fields.ensures, ← c.at.ensures, ← c.allows.ensures) c.if-not-allows.true)) ∙ c.loop-k.invariant, omega arith, omega arith)
+
+pub loop-k-preserved : goal.loop-k-preserved
+unfolding field_at
+loop-k-preserved c = let a = c.args in sym (first_go (is_code a.table.now a.r) 6 _ (omega arith) (rw (← c.word_at.ensures, ← c.kind_at.ensures, ← c.fields_by_number-fields.ensures, ← c.at.ensures, ← c.allows.ensures) c.if-not-allows.false)) ∙ c.loop-k.invariant
+
+pub returns : goal.returns
+returns c = let a = c.args in sym c.loop-k.invariant ∙ first_end (is_code a.table.now a.r) 6 _ (omega arith)

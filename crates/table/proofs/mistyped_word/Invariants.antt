@@ -1,10 +1,7 @@
 use Rattle.table.specs.Clauses.{first_from, is_sorted, mistyped_word}
 use mathlib.Core.Path.{◌≡◌}
-use Prim.Native.Nat.{◌-◌, ◌≤◌}
+use Prim.Native.Nat.{◌-◌}
 use Rattle.table.proofs.mistyped_word.Given as goal
 
 abbrev pub invariant-loop-k : goal.invariant-loop-k
-invariant-loop-k l = (l.k ≤ l.end) × (first_from (is_sorted l.table l.r) (l.end - l.k) l.k ≡ mistyped_word l.table l.r)
-
-abbrev pub decreases-loop-k : goal.decreases-loop-k
-decreases-loop-k l = l.end - l.k
+invariant-loop-k l = first_from (is_sorted l.table l.r) (l.k-end - l.k) l.k ≡ mistyped_word l.table l.r

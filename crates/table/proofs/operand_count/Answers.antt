@@ -7,7 +7,6 @@ use Rattle.table.proofs.operand_count.Goals as goal
 
 pub returns : goal.returns
 unfolding operand_count
-returns c = let u = c.fields_of-u.result in
-    let k = c.args.kind in
-    let e = counted named u.a u.b u.c u.d u.e k c.fields_of-u.ensures c.named.ensures.0 c.named-2.ensures.0 c.named-3.ensures.0 c.named-4.ensures.0 c.named-5.ensures.0 in
+returns c = let k = c.args.kind in
+    let e = counted named k c.fields_by_number-u.ensures c.named.ensures.0 c.named-2.ensures.0 c.named-3.ensures.0 c.named-4.ensures.0 c.named-5.ensures.0 in
     (e, subst (λ (x : ℕ). x ≤ 3) (sym e) (at_most_three k))

@@ -5,6 +5,6 @@ use native.Mathlib.Omega.{arith}
 use Prim.Native.Nat.{◌*◌}
 use Rattle.table.proofs.sort_of.Goals as goal
 
-pub returns : goal.returns
+pub returns-else-v-size : goal.returns-else-v-size
 unfolding sort_of
-returns c = let e = get_or-eq_default c.args.table.now 0 {n = 6 * c.args.v} (omega arith) in rw e
+returns-else-v-size c = let e = get_or-eq_default c.args.table.now 0 {n = 6 * c.args.v} (omega arith) in rw e

@@ -1,10 +1,7 @@
 use Rattle.table.specs.Clauses.{first_from, is_zero, spare_word}
 use mathlib.Core.Path.{◌≡◌}
-use Prim.Native.Nat.{◌-◌, ◌≤◌}
+use Prim.Native.Nat.{◌-◌}
 use Rattle.table.proofs.spare_word.Given as goal
 
 abbrev pub invariant-loop-k : goal.invariant-loop-k
-invariant-loop-k l = (l.k ≤ 6) × (first_from (is_zero l.table l.r) (6 - l.k) l.k ≡ spare_word l.table l.r)
-
-abbrev pub decreases-loop-k : goal.decreases-loop-k
-decreases-loop-k l = 6 - l.k
+invariant-loop-k l = first_from (is_zero l.table l.r) (6 - l.k) l.k ≡ spare_word l.table l.r

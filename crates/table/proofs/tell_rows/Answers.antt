@@ -6,16 +6,16 @@ use Rattle.table.proofs.tell_rows.Goals as goal
 
 pub returns-then-table-ne0 : goal.returns-then-table-ne0
 unfolding table_refusal length_right explained length_fault
-returns-then-table-ne0 c = let e = c.by_word.ensures in record { refusal = rw (e.0, e.1, ne_eqb _ 0 c.if-table-ne0.true); clause = rw (e.0, ne_eqb _ 0 c.if-table-ne0.true) e.2 }
+returns-then-table-ne0 c = let a = ne_eqb _ 0 c.if-table-ne0.true in record { refusal = rw a; clause = rw a }
 
-pub returns-then-n-lt1 : goal.returns-then-n-lt1
+pub returns-then-size-lt1 : goal.returns-then-size-lt1
 unfolding table_refusal length_right explained length_fault
-returns-then-n-lt1 c = let e = c.by_word-then-n-lt1.ensures in let a = c.if-table-ne0.false in let b = lt-leb 1 _ c.if-n-lt1.true in record { refusal = rw (e.0, e.1, a, b); clause = rw (e.0, a, b) e.2 }
+returns-then-size-lt1 c = let a = c.if-table-ne0.false in let b = lt-leb 1 _ c.if-size-lt1.true in record { refusal = rw (a, b); clause = rw (a, b) }
 
-pub returns-then-n-gt512 : goal.returns-then-n-gt512
+pub returns-then-size-gt-MOST_ROWS : goal.returns-then-size-gt-MOST_ROWS
 unfolding table_refusal length_right explained length_fault
-returns-then-n-gt512 c = let e = c.by_word-then-n-gt512.ensures in let a = c.if-table-ne0.false in let b = le-leb 1 _ c.if-n-lt1.false in record { refusal = rw (e.0, e.1, a, b, lt-leb _ 512 c.if-n-gt512.true); clause = rw (e.0, a, b) e.2 }
+returns-then-size-gt-MOST_ROWS c = let a = c.if-table-ne0.false in let b = le-leb 1 _ c.if-size-lt1.false in record { refusal = rw (a, b, lt-leb _ 512 c.if-size-gt-MOST_ROWS.true); clause = rw (a, b) }
 
-pub returns : goal.returns
+pub returns-else-size-gt-MOST_ROWS : goal.returns-else-size-gt-MOST_ROWS
 unfolding table_refusal length_right
-returns c = let e = c.rows_told.ensures in record { refusal = rw (c.if-table-ne0.false, le-leb 1 _ c.if-n-lt1.false, le-leb _ 512 c.if-n-gt512.false) e.0; clause = e.1 }
+returns-else-size-gt-MOST_ROWS c = let e = c.tell_each.ensures in record { refusal = rw (c.if-table-ne0.false, le-leb 1 _ c.if-size-lt1.false, le-leb _ 512 c.if-size-gt-MOST_ROWS.false) e.0; clause = e.1 }

@@ -7,7 +7,6 @@ use Rattle.table.proofs.used_words.Goals as goal
 
 pub returns : goal.returns
 unfolding used_words
-returns c = let u = c.fields_of-u.result in
-    let k = c.args.kind in
-    let e = counted in_use u.a u.b u.c u.d u.e k c.fields_of-u.ensures c.in_use.ensures.0 c.in_use-2.ensures.0 c.in_use-3.ensures.0 c.in_use-4.ensures.0 c.in_use-5.ensures.0 in
+returns c = let k = c.args.kind in
+    let e = counted in_use k c.fields_by_number-u.ensures c.in_use.ensures.0 c.in_use-2.ensures.0 c.in_use-3.ensures.0 c.in_use-4.ensures.0 c.in_use-5.ensures.0 in
     (e, subst (λ (x : ℕ). x ≤ 5) (sym e) (at_most_five k))
