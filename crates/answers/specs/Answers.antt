@@ -7,7 +7,7 @@
 --   one_load, one_fire, one_run       no second outcome fits
 --
 -- Assumes nothing.
-use Rattle.std.specs.Prelude.{ℕ, ◌+◌, ◌-◌, ◌≤◌, ◌≡◌, refl, ◌≢◌, Bool, true, length, eqb, ltb}
+use Rattle.std.specs.Prelude.{ℕ, ◌+◌, ◌-◌, ◌≤◌, ◌≡◌, refl, ◌≢◌, Bool, true, length, eqb, ltb, Result, Ok, Err}
 use Rattle.std.proofs.Common.{sym, ap₂, ◌∙◌, arith, eq-eqb}
 use Rattle.std.proofs.Math.Path.{ap, subst}
 use mathlib.Core.List.{List}
@@ -19,13 +19,13 @@ use Rattle.state.specs.Net.{net_of, fire, or_else}
 use Rattle.state.specs.Legal.{right_length, legal}
 use Rattle.state.specs.Load.{input_count, loaded}
 use Rattle.state.specs.Run.{SPENT, Outcome, outcome}
-use Rattle.machine.specs.Entries.{first, state_refusal, load_refusal, load_state, LoadAnswer, fire_refusal, fire_state, FireAnswer}
+use Rattle.machine.specs.Entries.{first, refusal_of, state_refusal, load_refusal, load_state, LoadAnswer, fire_refusal, fire_state, FireAnswer}
 use Rattle.machine.specs.declared.Fired.{Fired}
 use Rattle.machine.proofs.Answers.{state_known, state_right, first_zero}
 use Rattle.run.specs.Entry.{order_below, run_refusal, run_at, run_firings, run_state, ran_by, run_answer, ran_firings}
 use Rattle.run.specs.Numbers.{ran_shown, RunAnswer}
 use Rattle.run.specs.declared.Ran.{Ran}
-use Rattle.run.specs.declared.Ran.TheVariants.{Refused}
+use Rattle.refusal.specs.declared.Refusal.{Refusal}
 use Rattle.confluence.specs.Statements.{run_of, made_by}
 use Rattle.confluence.proofs.Statements.{run_counts_firings, runs_end_alike}
 use Rattle.legality.specs.Legality.{firing_keeps_legal, run_keeps_legal, Words, loaded_is_legal}
@@ -36,9 +36,9 @@ unfolding run_refusal
 run_known g s order e = state_known g s (first_zero (state_refusal g s) (pick (order_below g order) 0 18) e).0
 
 module _ (g s order : List ℕ) (a : ℕ) (ok : run_refusal g s order ≡ 0) where
-  answer_is : run_answer g s order a ≡ ran_by (outcome g (run_at g s order a).state) (run_firings g s order a)
+  answer_is : run_answer g s order a ≡ Ok (ran_by (outcome g (run_at g s order a).state) (run_firings g s order a))
   unfolding run_answer
-  answer_is = ap (λ (b : Bool). pick b (ran_by (outcome g (run_at g s order a).state) (run_firings g s order a)) (Refused (run_refusal g s order))) (eq-eqb _ _ ok)
+  answer_is = ap (λ (b : Bool). pick b (Ok (ran_by (outcome g (run_at g s order a).state) (run_firings g s order a))) (Err (refusal_of (run_refusal g s order)))) (eq-eqb _ _ ok)
 
   state_is : run_state g s order a ≡ (run_at g s order a).state
   unfolding run_state
@@ -62,7 +62,7 @@ run_answers_alike g s order order' a a' ok ok' n enough =
     let c = (run_counts_firings g order s a).1 in
     let c' = (run_counts_firings g order' s a').1 in
     let f : a' - (run_of g order' s a').left ≡ a - (run_of g order s a).left = made a a' (run_of g order s a).left (run_of g order' s a').left (omega arith) (omega arith) x.1 in (
-      answer_is g s order' a' ok' ∙ ap₂ (λ (o : Outcome) (m : ℕ). ran_by o m) x.2 f ∙ sym (answer_is g s order a ok),
+      answer_is g s order' a' ok' ∙ ap₂ (λ (o : Outcome) (m : ℕ). Ok (ran_by o m)) x.2 f ∙ sym (answer_is g s order a ok),
       state_is g s order' a' ok' ∙ x.0 ∙ sym (state_is g s order a ok),
     )
 
@@ -105,8 +105,8 @@ load_leaves_right g inputs s wg wi ok =
 pub one_load : (g inputs s : List ℕ) (n m : ℕ) (x y : List ℕ) → LoadAnswer g inputs s n x → LoadAnswer g inputs s m y → (n ≡ m) × (x ≡ y)
 one_load g inputs s n m x y p q = (p.number ∙ sym q.number, p.state ∙ sym q.state)
 
-pub one_fire : (g s : List ℕ) (i : ℕ) (r t : Fired) (x y : List ℕ) → FireAnswer g s i r x → FireAnswer g s i t y → (r ≡ t) × (x ≡ y)
+pub one_fire : (g s : List ℕ) (i : ℕ) (r t : Result Fired Refusal) (x y : List ℕ) → FireAnswer g s i r x → FireAnswer g s i t y → (r ≡ t) × (x ≡ y)
 one_fire g s i r t x y p q = (p.answer ∙ sym q.answer, p.state ∙ sym q.state)
 
-pub one_run : (g s order : List ℕ) (a : ℕ) (r t : Ran) (x y : List ℕ) → RunAnswer g s order a r x → RunAnswer g s order a t y → (r ≡ t) × (x ≡ y)
+pub one_run : (g s order : List ℕ) (a : ℕ) (r t : Result Ran Refusal) (x y : List ℕ) → RunAnswer g s order a r x → RunAnswer g s order a t y → (r ≡ t) × (x ≡ y)
 one_run g s order a r t x y p q = (p.answer ∙ sym q.answer, p.state ∙ sym q.state)

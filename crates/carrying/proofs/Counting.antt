@@ -21,8 +21,8 @@ use Rattle.laid.specs.Bases.{node_base, wire_base, length_pieces, no_roles, node
 use Rattle.laid.specs.Those.{those_more, those_few}
 use Rattle.carrying.specs.Kept.{Passing, Counted, Bases, Low}
 
--- The bases of the rows before r, with the sums so far; the outputs stay low.
-pub record BasesBefore (t : List ℕ) (r : ℕ) (old nodes wires : List ℕ) (node wire : ℕ) : Type 0 where
+-- The bases of the rows before r, with the sums so far; the outputs are low.
+pub record BasesBefore (t : List ℕ) (r : ℕ) (nodes wires : List ℕ) (node wire : ℕ) : Type 0 where
   pub nodes_long : length nodes ≡ 512
   pub wires_long : length wires ≡ 512
   pub nodes_noted : (q : ℕ) → q < r → get_or nodes q 0 ≡ node_base t q
@@ -31,7 +31,7 @@ pub record BasesBefore (t : List ℕ) (r : ℕ) (old nodes wires : List ℕ) (no
   pub wire_is : wire ≡ wire_base t r
   pub node_small : node ≤ 2000 * r
   pub wire_small : wire ≤ 512 + 2000 * r
-  pub low : Low old → Low wires
+  pub low : Low wires
 
 -- ---- starts and results
 abbrev pub of_kind : (ℕ → Bool) → List ℕ → ℕ → ℕ
@@ -119,9 +119,9 @@ module _ (t : List ℕ) (n : ℕ) (p : Passing t n) where
     wires_of_other a b c d = ap (wire_base t) (add-one r) ∙ no_wires r (none a b c d) ∙ (let z : wire_base t r ≡ wire_base t r + 0 = omega arith in z)
 
   -- ---- all rows
-  pub no_bases : (starts : ℕ) (nodes wires : List ℕ) → starts ≡ start_total t → length nodes ≡ 512 → length wires ≡ 512 → BasesBefore t 0 wires nodes wires 0 starts
+  pub no_bases : (starts : ℕ) (nodes wires : List ℕ) → starts ≡ start_total t → length nodes ≡ 512 → length wires ≡ 512 → Low wires → BasesBefore t 0 nodes wires 0 starts
   unfolding node_base wire_base gathered each
-  no_bases starts nodes wires e a b =
+  no_bases starts nodes wires e a b w =
       record {
         nodes_long = a;
         wires_long = b;
@@ -131,7 +131,7 @@ module _ (t : List ℕ) (n : ℕ) (p : Passing t n) where
         wire_is = e ∙ (let z : start_total t ≡ start_total t + 0 = omega arith in z);
         node_small = omega arith;
         wire_small = let z = starts_few in omega arith;
-        low = λ h. h;
+        low = w;
       }
 
   noted_at : (r x : ℕ) (base : ℕ → ℕ) (notes : List ℕ) → length notes ≡ 512 → r < n → x ≡ base r → ((q : ℕ) → q < r → get_or notes q 0 ≡ base q)
@@ -145,10 +145,10 @@ module _ (t : List ℕ) (n : ℕ) (p : Passing t n) where
       under : q ≢ r → q < r + 1 → q < r
       under z h = omega arith
 
-  pub one_base : (r node wire x y : ℕ) (old nodes wires : List ℕ) → r < n → BasesBefore t r old nodes wires node wire
+  pub one_base : (r node wire x y : ℕ) (nodes wires : List ℕ) → r < n → BasesBefore t r nodes wires node wire
       → (node_base t (r + 1) ≡ node_base t r + x) × (x ≤ 2000) → (wire_base t (r + 1) ≡ wire_base t r + y) × (y ≤ 2000)
-      → BasesBefore t (r + 1) old (set nodes r node) (set wires r wire) (node + x) (wire + y)
-  one_base r node wire x y old nodes wires l B a b =
+      → BasesBefore t (r + 1) (set nodes r node) (set wires r wire) (node + x) (wire + y)
+  one_base r node wire x y nodes wires l B a b =
       record {
         nodes_long = length-set nodes r node ∙ B.nodes_long;
         wires_long = length-set wires r wire ∙ B.wires_long;
@@ -158,7 +158,7 @@ module _ (t : List ℕ) (n : ℕ) (p : Passing t n) where
         wire_is = ap (λ (z : ℕ). z + y) B.wire_is ∙ sym b.0;
         node_small = let z = B.node_small in let s = a.1 in omega arith;
         wire_small = let z = B.wire_small in let s = b.1 in omega arith;
-        low = λ h q. elim (ℕ_discrete q r) [ yes z ↦ here q z | no z ↦ subst (λ (w : ℕ). w ≤ 100000000) (sym (get_or-set_other wires r q wire 0 z)) (B.low h q) ];
+        low = λ q. elim (ℕ_discrete q r) [ yes z ↦ here q z | no z ↦ subst (λ (w : ℕ). w ≤ 100000000) (sym (get_or-set_other wires r q wire 0 z)) (B.low q) ];
       }
     where
       here : (q : ℕ) → q ≡ r → get_or (set wires r wire) q 0 ≤ 100000000
@@ -179,9 +179,9 @@ module _ (t : List ℕ) (n : ℕ) (p : Passing t n) where
       let b = length_pieces (λ r. start r ∷ []) 1 (λ r. refl) (start_rows t) in
       omega arith
 
-  pub all_bases : (r node wire : ℕ) (old nodes wires : List ℕ) → r ≤ n → n ≤ r → BasesBefore t r old nodes wires node wire
-      → Bases t nodes wires × (node ≡ plain_nodes t) × (wire ≡ plain_wires t) × (Low old → Low wires)
-  all_bases r node wire old nodes wires a b B =
+  pub all_bases : (r node wire : ℕ) (nodes wires : List ℕ) → r ≤ n → n ≤ r → BasesBefore t r nodes wires node wire
+      → Bases t nodes wires × (node ≡ plain_nodes t) × (wire ≡ plain_wires t) × Low wires
+  all_bases r node wire nodes wires a b B =
       let s = whole r a b in (
         record {
           nodes_long = B.nodes_long;

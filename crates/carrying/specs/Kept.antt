@@ -4,6 +4,7 @@
 --   Bodies            the body before each of the first r rows is noted
 --   Pairs             which NEXT serves which ARG; PairsBefore: of the NEXTs before row r
 --   Uses              the operands that name a value, linked, last first
+--   Noted             all of these, of all rows
 --   Counted, Bases    how many values are carried into each loop; the first node and the first output of each row
 --   home_from          a value's wire at home, by noted outputs, which are Low
 --   OnTheWay          a body on the way of a value from its home into the loops that use it
@@ -56,6 +57,13 @@ pub record Uses (t : List ℕ) (p : ℕ) (heads links : List ℕ) : Type 0 where
   pub link : (r j : ℕ) → IsUse t r j → 3 * r + j < p → UseOrNone t (operand t r j) (get_or links (3 * r + j) 0)
   pub link_below : (r j : ℕ) → IsUse t r j → 3 * r + j < p → get_or links (3 * r + j) 0 ≤ 3 * r + j
   pub link_last : (r j q i : ℕ) → IsUse t r j → IsUse t q i → 3 * r + j < p → operand t q i ≡ operand t r j → 3 * q + i < 3 * r + j → 3 * q + i < get_or links (3 * r + j) 0
+
+-- What is noted of a table before anything is counted.
+pub record Noted (t : List ℕ) (n : ℕ) (bodies pairs heads links : List ℕ) : Type 0 where
+  pub passing : Passing t n
+  pub bodies_noted : Bodies t n bodies
+  pub pairs_noted : Pairs t pairs
+  pub uses_noted : Uses t (3 * n) heads links
 
 pub record Counted (t counts : List ℕ) : Type 0 where
   pub long : length counts ≡ 512

@@ -6,6 +6,8 @@
 --   counted_all, count_refused    the answer
 --
 -- Assumes nothing.
+use Rattle.std.proofs.Common.{eqb-true}
+use Rattle.std.proofs.lemmas.Bool.{eqb-false}
 use Prim.Native.Nat.{ℕ, zero, suc, ◌+◌, ◌-◌, ◌*◌, ◌<◌, ◌≤◌}
 use mathlib.Core.Path.{◌≡◌, refl, sym, ap, ◌∙◌, subst}
 use mathlib.Core.Logic.{◌≢◌, ◌⊎◌, inl, inr}
@@ -32,7 +34,7 @@ use Rattle.lowered.specs.Lower.{carried_into, copy, row_roles, roles, starts, ou
 use Rattle.laid.specs.Those.{those_few}
 use Rattle.laid.specs.Bases.{length_pieces, starts_long}
 use Rattle.carrying.specs.Kept.{Passing, Pairs, Uses, Counted}
-use Rattle.measuring.specs.Passed.{structure_of, number_is}
+use Rattle.carrying.specs.Checked.{structure_of, number_is}
 use Rattle.measuring.specs.Ready.{starts_few}
 use Rattle.counting.specs.Idle.{length_those, named_any, named_from, named_by, row_uses, row_idle, totals_by_rows, uses_of_for, uses_of_other, idle_of_start, idle_of_op, idle_of_for, idle_of_arg, idle_of_other}
 use Rattle.counting.specs.Answers.{counts, count_answer}
@@ -92,6 +94,13 @@ module _ (t : List ℕ) (n : ℕ) (P : Passing t n) (heads links : List ℕ) (U 
       go : (get_or heads v 0 ≡ 0) ⊎ ((r : ℕ) × (j : ℕ) × (get_or heads v 0 ≡ suc (3 * r + j)) × ((r < size t) × (j < operand_count (kind_at t r))) × (operand t r j ≡ v)) → 0 ≡ flag (not (named_any t v))
       go (inl z) = absurd (e z)
       go (inr m) = rw (named_by t m.0 m.1 v m.3.0 m.3.1 m.4)
+
+  pub unnamed_iff : v < n → flag (eqb (get_or heads v 0) 0) ≡ flag (not (named_any t v))
+  unnamed_iff l = go (eqb (get_or heads v 0) 0) refl
+    where
+      go : (b : Bool) → eqb (get_or heads v 0) 0 ≡ b → flag b ≡ flag (not (named_any t v))
+      go true q = unnamed_is l (eqb-true (get_or heads v 0) 0 q)
+      go false q = named_is l (eqb-false (get_or heads v 0) 0 q)
 
 -- ---- so many that no sum leaves a word
 

@@ -20,16 +20,17 @@
 --
 -- Assumes nothing.
 use Prim.{Unit, tt}
-use Rattle.std.specs.Prelude.{ℕ, suc, ◌*◌, ◌≤◌, ◌<◌, ◌≡◌, refl, ◌≢◌, ◌⊎◌, true, List, [], ◌∷◌, ◌++◌, length, drop}
+use Rattle.std.specs.Prelude.{ℕ, suc, ◌*◌, ◌≤◌, ◌<◌, ◌≡◌, refl, ◌≢◌, ◌⊎◌, true, List, [], ◌∷◌, ◌++◌, length, drop, Result, Ok, Err}
 use Rattle.std.proofs.Common.{sym, ap, ap₂, ◌∙◌, subst, inl, inr, arith}
 use Rattle.std.proofs.Math.Option.{Option, none, some}
 use Rattle.std.proofs.Math.Decide.{dec_le}
 use Rattle.state.specs.Legal.{right_length}
 use Rattle.state.specs.Run.{SPENT, COMPLETE, ZERO-STEP, outcome}
 use Rattle.machine.specs.Entries.{load_refusal, load_state}
+use Rattle.refusal.specs.declared.Refusal.{Refusal}
 use Rattle.run.specs.Entry.{order_below, run_state, run_answer, ran_outcome, ran_firings}
 use Rattle.run.specs.declared.Ran.{Ran}
-use Rattle.run.specs.declared.Ran.TheVariants.{Complete, Stranded, Refused as RunRefused, ZeroStep as RunZeroStep, Spent as RunSpent}
+use Rattle.run.specs.declared.Ran.TheVariants.{Complete, Stranded, ZeroStep as RunZeroStep, Spent as RunSpent}
 use Rattle.confluence.specs.Statements.{Fires, AtRest}
 use Rattle.legality.specs.Legality.{Words}
 use Rattle.table.specs.Rows.{size, INPUT, OUT}
@@ -42,8 +43,7 @@ use Rattle.engine.specs.Answers.{PlainAnswer}
 use Rattle.engine.specs.Against.{Fit, results_in, fit_is_not_refused}
 use Rattle.engine.proofs.Against.{ended_is_the_reading, the_reading_is_ended, zero_step_is_the_reading, the_reading_is_a_zero_step, spent_is_the_rest, too_few_are_spent, endless_is_spent, refused_is_refused}
 use Rattle.engine.specs.Cases.{five_turns_end}
-use Rattle.engine.specs.declared.Plain.{Plain}
-use Rattle.engine.specs.declared.Plain.TheVariants.{Refused, Ended, ZeroStep, Spent}
+use Rattle.engine.specs.Plain.{Plain, Refused, Ended, ZeroStep, Spent}
 use Rattle.lowered.specs.Lower.{lowered_words}
 use Rattle.lowered.specs.Room.{check_answer, lower_answer}
 use Rattle.laid.specs.Answers.{passed_check}
@@ -61,24 +61,24 @@ pub record EndsWith (t room end : List ℕ) (T : ℕ) (r : Plain) (after : List 
   pub rest : after ≡ results_in t after ++ drop (rows_of OUT t (size t)) room
 
 -- What read_plain (with `room` lent and `after` left) and the three calls (with `end` left) may be answered together. SPENT says nothing of the words.
-abbrev pub Agree : List ℕ → List ℕ → List ℕ → List ℕ → Plain → Ran → Type 0
+abbrev pub Agree : List ℕ → List ℕ → List ℕ → List ℕ → Plain → Result Ran Refusal → Type 0
 -- refused only where too few words are lent
 Agree t room after end (Refused n row) q = length room < rows_of OUT t (size t)
-Agree t room after end (Ended T) (Complete F) = AsRead t (results_in t after) end
-Agree t room after end (Ended T) (RunSpent F) = Unit {0}
-Agree t room after end (Ended T) (RunZeroStep F i) = ⊥
-Agree t room after end (Ended T) (Stranded F) = ⊥
-Agree t room after end (Ended T) (RunRefused n) = ⊥
-Agree t room after end (ZeroStep L T) (Complete F) = ⊥
-Agree t room after end (ZeroStep L T) (RunSpent F) = Unit {0}
-Agree t room after end (ZeroStep L T) (RunZeroStep F i) = FaultNamed t L end (record { answer = ZERO-STEP; node = i })
-Agree t room after end (ZeroStep L T) (Stranded F) = ⊥
-Agree t room after end (ZeroStep L T) (RunRefused n) = ⊥
-Agree t room after end (Spent T) (Complete F) = Unit {0}
-Agree t room after end (Spent T) (RunSpent F) = Unit {0}
-Agree t room after end (Spent T) (RunZeroStep F i) = Unit {0}
-Agree t room after end (Spent T) (Stranded F) = ⊥
-Agree t room after end (Spent T) (RunRefused n) = ⊥
+Agree t room after end (Ended T) (Ok (Complete F)) = AsRead t (results_in t after) end
+Agree t room after end (Ended T) (Ok (RunSpent F)) = Unit {0}
+Agree t room after end (Ended T) (Ok (RunZeroStep F i)) = ⊥
+Agree t room after end (Ended T) (Ok (Stranded F)) = ⊥
+Agree t room after end (Ended T) (Err n) = ⊥
+Agree t room after end (ZeroStep L T) (Ok (Complete F)) = ⊥
+Agree t room after end (ZeroStep L T) (Ok (RunSpent F)) = Unit {0}
+Agree t room after end (ZeroStep L T) (Ok (RunZeroStep F i)) = FaultNamed t L end (record { answer = ZERO-STEP; node = i })
+Agree t room after end (ZeroStep L T) (Ok (Stranded F)) = ⊥
+Agree t room after end (ZeroStep L T) (Err n) = ⊥
+Agree t room after end (Spent T) (Ok (Complete F)) = Unit {0}
+Agree t room after end (Spent T) (Ok (RunSpent F)) = Unit {0}
+Agree t room after end (Spent T) (Ok (RunZeroStep F i)) = Unit {0}
+Agree t room after end (Spent T) (Ok (Stranded F)) = ⊥
+Agree t room after end (Spent T) (Err n) = ⊥
 
 module _ (t inputs : List ℕ) where
   -- ---- where read_plain is ended
@@ -106,14 +106,14 @@ module _ (t inputs : List ℕ) where
         (e.0, m.0, e.1, m.1)
 
     pub ended_means_complete_calls : (openings : List Opening) × (F : ℕ) × (turns_made openings ≡ T)
-        × ((lent s list : List ℕ) (a : ℕ) (q : Ran) (end : List ℕ) → Called t lent inputs s list a q end → F ≤ a → CallsAsRead t inputs (results_in t after) openings F list a q end)
+        × ((lent s list : List ℕ) (a : ℕ) (q : Result Ran Refusal) (end : List ℕ) → Called t lent inputs s list a q end → F ≤ a → CallsAsRead t inputs (results_in t after) openings F list a q end)
     ended_means_complete_calls =
         let e = written_words_are_read in
         let m = calls_rehearse_the_reading t inputs (results_in t after) e.0 e.2 in
         (e.0, m.0, e.1, m.1)
 
     -- ENDED AND COMPLETE
-    pub two_answers_agree : (lent s list : List ℕ) (a F : ℕ) (q : Ran) (end : List ℕ) → Called t lent inputs s list a q end → q ≡ Complete F → AsRead t (results_in t after) end
+    pub two_answers_agree : (lent s list : List ℕ) (a F : ℕ) (q : Result Ran Refusal) (end : List ℕ) → Called t lent inputs s list a q end → q ≡ Ok (Complete F) → AsRead t (results_in t after) end
     two_answers_agree lent s list a F q end c e =
         let x = written_words_are_read in
         let y = complete_calls_read t inputs lent s list a F q end c e in
@@ -132,7 +132,7 @@ module _ (t inputs : List ℕ) where
 
   -- ---- and back
   pub called_is_not_refused : (room : List ℕ) → rows_of OUT t (size t) ≤ length room
-      → (lent s list : List ℕ) (a : ℕ) (q : Ran) (end : List ℕ) → Called t lent inputs s list a q end → Fit t inputs (length room)
+      → (lent s list : List ℕ) (a : ℕ) (q : Result Ran Refusal) (end : List ℕ) → Called t lent inputs s list a q end → Fit t inputs (length room)
   called_is_not_refused room l lent s list a q end c =
       record { rows = passed_check t (called_is_checked t inputs lent s list a q end c); one_each = called_with_the_inputs t inputs lent s list a q end c; room = l }
 
@@ -152,18 +152,18 @@ module _ (t inputs : List ℕ) where
       }
 
   -- the turns of the reading are at most the firings told
-  made_by_lem : (lent s list : List ℕ) (a : ℕ) (q : Ran) (end : List ℕ) → Called t lent inputs s list a q end → (F : ℕ) → ran_firings q ≡ F → (ran_outcome q).answer ≢ SPENT
+  made_by_lem : (lent s list : List ℕ) (a : ℕ) (q : Result Ran Refusal) (end : List ℕ) → Called t lent inputs s list a q end → (F : ℕ) → ran_firings q ≡ F → (ran_outcome q).answer ≢ SPENT
       → (o : Outcome) → Reads t inputs o → turns_made (openings_of o) ≤ F
   made_by_lem lent s list a q end c F f n o r = let b = called_turns t inputs lent s list a q end c n o r in omega arith
 
-  pub complete_calls_mean_ended : (lent s list : List ℕ) (a F : ℕ) (q : Ran) (end : List ℕ) → Called t lent inputs s list a q end → q ≡ Complete F
+  pub complete_calls_mean_ended : (lent s list : List ℕ) (a F : ℕ) (q : Result Ran Refusal) (end : List ℕ) → Called t lent inputs s list a q end → q ≡ Ok (Complete F)
       → (T : ℕ) × (T ≤ F)
       × ((room : List ℕ) → rows_of OUT t (size t) ≤ length room → (A : ℕ) (r : Plain) (after : List ℕ) → PlainAnswer t inputs room A r after
       → (T ≤ A → EndsWith t room end T r after) × (A < T → (r ≡ Spent A) × (after ≡ room)))
   complete_calls_mean_ended lent s list a F q end c e =
       let y = complete_calls_read t inputs lent s list a F q end c e in (
         turns_made y.1,
-        made_by_lem lent s list a q end c F (ap ran_firings e) (λ z. let k : COMPLETE ≡ SPENT = sym (ap (λ (x : Ran). (ran_outcome x).answer) e) ∙ z in omega arith) (ended y.0 y.1) y.2,
+        made_by_lem lent s list a q end c F (ap ran_firings e) (λ z. let k : COMPLETE ≡ SPENT = sym (ap (λ (x : Result Ran Refusal). (ran_outcome x).answer) e) ∙ z in omega arith) (ended y.0 y.1) y.2,
         λ room l A r after p.
             let f = called_is_not_refused room l lent s list a q end c in (
               ends_with y.0 y.1 y.2 end y.3 room f A r after p,
@@ -196,7 +196,7 @@ module _ (t inputs : List ℕ) where
 
   -- ---- a zero step
   pub zero_step_means_faulted_calls : (room : List ℕ) (A L T : ℕ) (after : List ℕ) → PlainAnswer t inputs room A (ZeroStep L T) after
-      → (lent s list : List ℕ) (a : ℕ) (q : Ran) (end : List ℕ) → Called t lent inputs s list a q end → ((ran_outcome q).answer ≡ SPENT) ⊎ FaultNamed t L end (ran_outcome q)
+      → (lent s list : List ℕ) (a : ℕ) (q : Result Ran Refusal) (end : List ℕ) → Called t lent inputs s list a q end → ((ran_outcome q).answer ≡ SPENT) ⊎ FaultNamed t L end (ran_outcome q)
   zero_step_means_faulted_calls room A L T after p = let e = zero_step_is_the_reading t inputs room A L T after p in calls_meet_the_fault t inputs L e.openings e.reads
 
   pub zero_step_means_faulted_orders : (room : List ℕ) (A L T : ℕ) (after : List ℕ) → PlainAnswer t inputs room A (ZeroStep L T) after → (lent : List ℕ) → (lower_answer t (length lent)).number ≡ 0
@@ -204,7 +204,7 @@ module _ (t inputs : List ℕ) where
   zero_step_means_faulted_orders room A L T after p lent w =
       let e = zero_step_is_the_reading t inputs room A L T after p in zero_step_is_named t (lowered_is_checked t lent w) inputs L e.openings e.reads
 
-  pub zero_step_calls_mean_a_zero_step : (lent s list : List ℕ) (a F i : ℕ) (q : Ran) (end : List ℕ) → Called t lent inputs s list a q end → q ≡ RunZeroStep F i
+  pub zero_step_calls_mean_a_zero_step : (lent s list : List ℕ) (a F i : ℕ) (q : Result Ran Refusal) (end : List ℕ) → Called t lent inputs s list a q end → q ≡ Ok (RunZeroStep F i)
       → (L : ℕ) × (T : ℕ) × (T ≤ F) × FaultNamed t L end (ran_outcome q)
       × ((room : List ℕ) → rows_of OUT t (size t) ≤ length room → (A : ℕ) (r : Plain) (after : List ℕ) → PlainAnswer t inputs room A r after
       → (T ≤ A → (r ≡ ZeroStep L T) × (after ≡ room)) × (A < T → (r ≡ Spent A) × (after ≡ room)))
@@ -212,7 +212,7 @@ module _ (t inputs : List ℕ) where
       let y = zero_step_calls_read t inputs lent s list a F i q end c e in (
         y.0,
         turns_made y.1,
-        made_by_lem lent s list a q end c F (ap ran_firings e) (λ z. let k : ZERO-STEP ≡ SPENT = sym (ap (λ (x : Ran). (ran_outcome x).answer) e) ∙ z in omega arith) (zero_step y.0 y.1) y.2,
+        made_by_lem lent s list a q end c F (ap ran_firings e) (λ z. let k : ZERO-STEP ≡ SPENT = sym (ap (λ (x : Result Ran Refusal). (ran_outcome x).answer) e) ∙ z in omega arith) (zero_step y.0 y.1) y.2,
         y.3,
         λ room l A r after p.
             let f = called_is_not_refused room l lent s list a q end c in (
@@ -223,7 +223,7 @@ module _ (t inputs : List ℕ) where
 
   -- ---- what may be answered together
   module _ (room : List ℕ) (A : ℕ) (after lent s list : List ℕ) (a : ℕ) (end : List ℕ) where
-    refused_for_room : (n row : ℕ) (q : Ran) → PlainAnswer t inputs room A (Refused n row) after → Called t lent inputs s list a q end → length room < rows_of OUT t (size t)
+    refused_for_room : (n row : ℕ) (q : Result Ran Refusal) → PlainAnswer t inputs room A (Refused n row) after → Called t lent inputs s list a q end → length room < rows_of OUT t (size t)
     refused_for_room n row q p c =
         elim (dec_le (rows_of OUT t (size t)) (length room)) [
           | yes l ↦
@@ -233,54 +233,54 @@ module _ (t inputs : List ℕ) where
           | no l ↦ omega arith
         ]
 
-    ended_never_faults : (T F i : ℕ) → PlainAnswer t inputs room A (Ended T) after → Called t lent inputs s list a (RunZeroStep F i) end → ⊥
+    ended_never_faults : (T F i : ℕ) → PlainAnswer t inputs room A (Ended T) after → Called t lent inputs s list a (Ok (RunZeroStep F i)) end → ⊥
     ended_never_faults T F i p c =
         let x = written_words_are_read room A T after p in
-        let y = zero_step_calls_read t inputs lent s list a F i (RunZeroStep F i) end c refl in
+        let y = zero_step_calls_read t inputs lent s list a F i (Ok (RunZeroStep F i)) end c refl in
         let o = one_outcome t inputs (zero_step y.0 y.1) (ended (results_in t after) x.0) y.2 x.2 in
         let z : ◌≡◌ {A = ℕ} 0 1 = cc in
         omega arith
 
-    fault_never_completes : (L T F : ℕ) → PlainAnswer t inputs room A (ZeroStep L T) after → Called t lent inputs s list a (Complete F) end → ⊥
+    fault_never_completes : (L T F : ℕ) → PlainAnswer t inputs room A (ZeroStep L T) after → Called t lent inputs s list a (Ok (Complete F)) end → ⊥
     fault_never_completes L T F p c =
         let x = zero_step_is_the_reading t inputs room A L T after p in
-        let y = complete_calls_read t inputs lent s list a F (Complete F) end c refl in
+        let y = complete_calls_read t inputs lent s list a F (Ok (Complete F)) end c refl in
         let o = one_outcome t inputs (zero_step L x.openings) (ended y.0 y.1) x.reads y.2 in
         let z : ◌≡◌ {A = ℕ} 0 1 = cc in
         omega arith
 
-    fault_is_named : (L T F i : ℕ) → PlainAnswer t inputs room A (ZeroStep L T) after → Called t lent inputs s list a (RunZeroStep F i) end → FaultNamed t L end (record { answer = ZERO-STEP; node = i })
-    fault_is_named L T F i p c = go (zero_step_means_faulted_calls room A L T after p lent s list a (RunZeroStep F i) end c)
+    fault_is_named : (L T F i : ℕ) → PlainAnswer t inputs room A (ZeroStep L T) after → Called t lent inputs s list a (Ok (RunZeroStep F i)) end → FaultNamed t L end (record { answer = ZERO-STEP; node = i })
+    fault_is_named L T F i p c = go (zero_step_means_faulted_calls room A L T after p lent s list a (Ok (RunZeroStep F i)) end c)
       where
         go : (ZERO-STEP ≡ SPENT) ⊎ FaultNamed t L end (record { answer = ZERO-STEP; node = i }) → FaultNamed t L end (record { answer = ZERO-STEP; node = i })
         go (inl z) = absurd (omega arith)
         go (inr f) = f
 
-    pub two_answers_never_differ : (r : Plain) (q : Ran) → PlainAnswer t inputs room A r after → Called t lent inputs s list a q end → Agree t room after end r q
+    pub two_answers_never_differ : (r : Plain) (q : Result Ran Refusal) → PlainAnswer t inputs room A r after → Called t lent inputs s list a q end → Agree t room after end r q
     two_answers_never_differ (Refused n row) q p c = refused_for_room n row q p c
-    two_answers_never_differ (Ended T) (Complete F) p c = two_answers_agree room A T after p lent s list a F (Complete F) end c refl
-    two_answers_never_differ (Ended T) (RunSpent F) p c = tt
-    two_answers_never_differ (Ended T) (RunZeroStep F i) p c = ended_never_faults T F i p c
-    two_answers_never_differ (Ended T) (Stranded F) p c = calls_are_never_stranded t inputs lent s list a F (Stranded F) end c refl
-    two_answers_never_differ (Ended T) (RunRefused n) p c = calls_are_not_refused t inputs lent s list a n (RunRefused n) end c refl
-    two_answers_never_differ (ZeroStep L T) (Complete F) p c = fault_never_completes L T F p c
-    two_answers_never_differ (ZeroStep L T) (RunSpent F) p c = tt
-    two_answers_never_differ (ZeroStep L T) (RunZeroStep F i) p c = fault_is_named L T F i p c
-    two_answers_never_differ (ZeroStep L T) (Stranded F) p c = calls_are_never_stranded t inputs lent s list a F (Stranded F) end c refl
-    two_answers_never_differ (ZeroStep L T) (RunRefused n) p c = calls_are_not_refused t inputs lent s list a n (RunRefused n) end c refl
-    two_answers_never_differ (Spent T) (Complete F) p c = tt
-    two_answers_never_differ (Spent T) (RunSpent F) p c = tt
-    two_answers_never_differ (Spent T) (RunZeroStep F i) p c = tt
-    two_answers_never_differ (Spent T) (Stranded F) p c = calls_are_never_stranded t inputs lent s list a F (Stranded F) end c refl
-    two_answers_never_differ (Spent T) (RunRefused n) p c = calls_are_not_refused t inputs lent s list a n (RunRefused n) end c refl
+    two_answers_never_differ (Ended T) (Ok (Complete F)) p c = two_answers_agree room A T after p lent s list a F (Ok (Complete F)) end c refl
+    two_answers_never_differ (Ended T) (Ok (RunSpent F)) p c = tt
+    two_answers_never_differ (Ended T) (Ok (RunZeroStep F i)) p c = ended_never_faults T F i p c
+    two_answers_never_differ (Ended T) (Ok (Stranded F)) p c = calls_are_never_stranded t inputs lent s list a F (Ok (Stranded F)) end c refl
+    two_answers_never_differ (Ended T) (Err n) p c = calls_are_not_refused t inputs lent s list a n (Err n) end c refl
+    two_answers_never_differ (ZeroStep L T) (Ok (Complete F)) p c = fault_never_completes L T F p c
+    two_answers_never_differ (ZeroStep L T) (Ok (RunSpent F)) p c = tt
+    two_answers_never_differ (ZeroStep L T) (Ok (RunZeroStep F i)) p c = fault_is_named L T F i p c
+    two_answers_never_differ (ZeroStep L T) (Ok (Stranded F)) p c = calls_are_never_stranded t inputs lent s list a F (Ok (Stranded F)) end c refl
+    two_answers_never_differ (ZeroStep L T) (Err n) p c = calls_are_not_refused t inputs lent s list a n (Err n) end c refl
+    two_answers_never_differ (Spent T) (Ok (Complete F)) p c = tt
+    two_answers_never_differ (Spent T) (Ok (RunSpent F)) p c = tt
+    two_answers_never_differ (Spent T) (Ok (RunZeroStep F i)) p c = tt
+    two_answers_never_differ (Spent T) (Ok (Stranded F)) p c = calls_are_never_stranded t inputs lent s list a F (Ok (Stranded F)) end c refl
+    two_answers_never_differ (Spent T) (Err n) p c = calls_are_not_refused t inputs lent s list a n (Err n) end c refl
 
   -- ---- no outcome
-  no_outcome_calls : ((o : Outcome) → Reads t inputs o → ⊥) → (lent s list : List ℕ) (a : ℕ) (q : Ran) (end : List ℕ) → Called t lent inputs s list a q end → (ran_outcome q).answer ≡ SPENT
-  no_outcome_calls never lent s list a (Complete F) end c = let y = complete_calls_read t inputs lent s list a F (Complete F) end c refl in absurd (never _ y.2)
-  no_outcome_calls never lent s list a (RunSpent F) end c = refl
-  no_outcome_calls never lent s list a (RunZeroStep F i) end c = let y = zero_step_calls_read t inputs lent s list a F i (RunZeroStep F i) end c refl in absurd (never _ y.2)
-  no_outcome_calls never lent s list a (Stranded F) end c = absurd (calls_are_never_stranded t inputs lent s list a F (Stranded F) end c refl)
-  no_outcome_calls never lent s list a (RunRefused n) end c = absurd (calls_are_not_refused t inputs lent s list a n (RunRefused n) end c refl)
+  no_outcome_calls : ((o : Outcome) → Reads t inputs o → ⊥) → (lent s list : List ℕ) (a : ℕ) (q : Result Ran Refusal) (end : List ℕ) → Called t lent inputs s list a q end → (ran_outcome q).answer ≡ SPENT
+  no_outcome_calls never lent s list a (Ok (Complete F)) end c = let y = complete_calls_read t inputs lent s list a F (Ok (Complete F)) end c refl in absurd (never _ y.2)
+  no_outcome_calls never lent s list a (Ok (RunSpent F)) end c = refl
+  no_outcome_calls never lent s list a (Ok (RunZeroStep F i)) end c = let y = zero_step_calls_read t inputs lent s list a F i (Ok (RunZeroStep F i)) end c refl in absurd (never _ y.2)
+  no_outcome_calls never lent s list a (Ok (Stranded F)) end c = absurd (calls_are_never_stranded t inputs lent s list a F (Ok (Stranded F)) end c refl)
+  no_outcome_calls never lent s list a (Err n) end c = absurd (calls_are_not_refused t inputs lent s list a n (Err n) end c refl)
 
   module _ (room : List ℕ) (spent : (A : ℕ) → PlainAnswer t inputs room A (Spent A) room) where
     no_outcome : (o : Outcome) → Reads t inputs o → ⊥
@@ -296,7 +296,7 @@ module _ (t inputs : List ℕ) where
         none_there k none e = refl
         none_there k (some o) e = absurd (no_outcome o (record { steps = k; comes = e }))
 
-    pub always_spent_calls_are_spent : (lent s list : List ℕ) (a : ℕ) (q : Ran) (end : List ℕ) → Called t lent inputs s list a q end → (ran_outcome q).answer ≡ SPENT
+    pub always_spent_calls_are_spent : (lent s list : List ℕ) (a : ℕ) (q : Result Ran Refusal) (end : List ℕ) → Called t lent inputs s list a q end → (ran_outcome q).answer ≡ SPENT
     always_spent_calls_are_spent = no_outcome_calls no_outcome
 
 -- ---- none of this is idle
@@ -310,7 +310,7 @@ pub an_endless_loop_is_always_spent : (room : List ℕ) → 1 ≤ length room �
 an_endless_loop_is_always_spent room l A =
     endless_is_spent stay_table [] room A (record { rows = passed_check stay_table stay_is_checked; one_each = sym stay_rows.0; room = let e = stay_rows.1 in omega arith }) stay_reads_for_ever
 
-pub an_endless_loop_runs_for_ever : (lent s list : List ℕ) (a : ℕ) (q : Ran) (end : List ℕ) → Called stay_table lent [] s list a q end → (ran_outcome q).answer ≡ SPENT
+pub an_endless_loop_runs_for_ever : (lent s list : List ℕ) (a : ℕ) (q : Result Ran Refusal) (end : List ℕ) → Called stay_table lent [] s list a q end → (ran_outcome q).answer ≡ SPENT
 an_endless_loop_runs_for_ever = no_outcome_calls stay_table [] (λ o r. let e : none ≡ some o = sym (stay_reads_for_ever r.steps) ∙ r.comes in let z : ◌≡◌ {A = ℕ} 0 1 = cc in omega arith)
 
 -- P10: five turns and 10
@@ -318,6 +318,6 @@ sum_writes : results_in sum_table (10 ∷ 9 ∷ []) ≡ 10 ∷ []
 unfolding rows_of
 sum_writes = refl
 
-pub both_sum_to_ten : (lent s list : List ℕ) (a F : ℕ) (q : Ran) (end : List ℕ) → Called sum_table lent (5 ∷ []) s list a q end → q ≡ Complete F → AsRead sum_table (10 ∷ []) end
+pub both_sum_to_ten : (lent s list : List ℕ) (a F : ℕ) (q : Result Ran Refusal) (end : List ℕ) → Called sum_table lent (5 ∷ []) s list a q end → q ≡ Ok (Complete F) → AsRead sum_table (10 ∷ []) end
 both_sum_to_ten lent s list a F q end c e =
     subst (λ (x : List ℕ). AsRead sum_table x end) sum_writes (two_answers_agree sum_table (5 ∷ []) (7 ∷ 9 ∷ []) 5 5 (10 ∷ 9 ∷ []) five_turns_end lent s list a F q end c e)

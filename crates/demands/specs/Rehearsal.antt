@@ -15,7 +15,7 @@
 --   as_many_inputs                `load` takes as many inputs as the table has INPUT rows; inputs_are_loaded: those it takes, in a state of the right length
 --
 -- Assumes nothing.
-use Rattle.std.specs.Prelude.{ℕ, ◌+◌, ◌-◌, ◌≤◌, ◌≡◌, refl, ◌⊎◌, ◌≢◌, Bool, true, false, eqb, length, take, drop}
+use Rattle.std.specs.Prelude.{ℕ, ◌+◌, ◌-◌, ◌≤◌, ◌≡◌, refl, ◌⊎◌, ◌≢◌, Bool, true, false, eqb, length, take, drop, Result, Ok, Err}
 use Rattle.std.proofs.Common.{sym, ◌∙◌, subst₂, inl, inr, arith, eq-eqb, eqb-true}
 use Rattle.std.proofs.Math.Path.{ap, ap₂, subst}
 use Rattle.std.proofs.Math.Bool.{cond}
@@ -27,12 +27,13 @@ use Rattle.graph.specs.Refusal.{graph_refusal}
 use Rattle.state.specs.Legal.{right_length}
 use Rattle.state.specs.Load.{input_count, loaded}
 use Rattle.state.specs.Run.{COMPLETE, ZERO-STEP, STRANDED, SPENT, Outcome, outcome}
-use Rattle.machine.specs.Entries.{first, state_refusal, load_refusal, load_state}
+use Rattle.refusal.specs.declared.Refusal.{Refusal}
+use Rattle.machine.specs.Entries.{first, refusal_of, state_refusal, load_refusal, load_state}
 use Rattle.machine.proofs.Answers.{first_zero}
 use Rattle.run.specs.Entry.{order_below, run_refusal, run_at, run_state, run_firings, ran_by, run_answer, ran_outcome, ran_firings}
 use Rattle.run.specs.Numbers.{ran_shown}
 use Rattle.run.specs.declared.Ran.{Ran}
-use Rattle.run.specs.declared.Ran.TheVariants.{Complete, Refused, ZeroStep, Stranded, Spent}
+use Rattle.run.specs.declared.Ran.TheVariants.{Complete, ZeroStep, Stranded, Spent}
 use Rattle.confluence.specs.Statements.{run_of, made_by}
 use Rattle.confluence.proofs.Statements.{run_is_an_order}
 use Rattle.legality.specs.Legality.{Words}
@@ -138,15 +139,15 @@ module _ (t lent : List ℕ) (written : (lower_answer t (length lent)).number �
           ap (λ (b : Bool). pick b (run_at (Graph t lent) (load_state (Graph t lent) inputs s) list a).state (load_state (Graph t lent) inputs s)) (eq-eqb _ _ runs)
           ∙ ap (λ p. p.state) at_is
 
-      answer_is : run_answer (Graph t lent) (load_state (Graph t lent) inputs s) list a ≡ ran_by (outcome (lowered_words t) end) made
+      answer_is : run_answer (Graph t lent) (load_state (Graph t lent) inputs s) list a ≡ Ok (ran_by (outcome (lowered_words t) end) made)
       unfolding run_answer run_firings
       answer_is =
-          ap (λ (b : Bool). pick b (ran_by (outcome (Graph t lent) (run_at (Graph t lent) (load_state (Graph t lent) inputs s) list a).state) (a - (run_at (Graph t lent) (load_state (Graph t lent) inputs s) list a).left)) (Refused (run_refusal (Graph t lent) (load_state (Graph t lent) inputs s) list))) (eq-eqb _ _ runs)
-          ∙ ap₂ (λ g p. ran_by (outcome g p.state) (a - p.left)) graph_is_lowered at_is
+          ap (λ (b : Bool). pick b (Ok (ran_by (outcome (Graph t lent) (run_at (Graph t lent) (load_state (Graph t lent) inputs s) list a).state) (a - (run_at (Graph t lent) (load_state (Graph t lent) inputs s) list a).left))) (Err (refusal_of (run_refusal (Graph t lent) (load_state (Graph t lent) inputs s) list)))) (eq-eqb _ _ runs)
+          ∙ ap₂ (λ g p. Ok (ran_by (outcome g p.state) (a - p.left))) graph_is_lowered at_is
 
 -- What a call of `run` on the loaded state has to do with the reading: answer and firings, every lent word, and what passed on each loop's conditions.
 pub record Rehearsed (t lent inputs words : List ℕ) (openings : List Opening) (F : ℕ) (s list : List ℕ) (a : ℕ) : Type 0 where
-  pub answer : run_answer (Graph t lent) (load_state (Graph t lent) inputs s) list a ≡ Complete F
+  pub answer : run_answer (Graph t lent) (load_state (Graph t lent) inputs s) list a ≡ Ok (Complete F)
   pub state : AsRead t words (run_state (Graph t lent) (load_state (Graph t lent) inputs s) list a)
   pub conditions : ConditionsTold t openings (made_by (lowered_words t) list (loaded_table t inputs) a) (loaded_table t inputs)
 
@@ -170,7 +171,7 @@ module _ (t : List ℕ) (checked : (check_answer t).number ≡ 0) where
             let f : a - (run_of (lowered_words t) list (loaded (lowered_words t) inputs) a).left ≡ c.0 = omega arith in
             let o = run_is_an_order (lowered_words t) list (loaded_table t inputs) a (λ z. let y : COMPLETE ≡ SPENT = sym e.0 ∙ z in omega arith) in
             record {
-              answer = answer_is t lent w inputs s loads list a runs ∙ told (outcome (lowered_words t) (end t lent w inputs s loads list a runs)) (made t lent w inputs s loads list a runs) e.0 ∙ ap Complete f;
+              answer = answer_is t lent w inputs s loads list a runs ∙ ap Ok (told (outcome (lowered_words t) (end t lent w inputs s loads list a runs)) (made t lent w inputs s loads list a runs) e.0 ∙ ap Complete f);
               state = subst (AsRead t words) (sym (state_is t lent w inputs s loads list a runs)) e.2;
               conditions = ((m.1 (made_by (lowered_words t) list (loaded_table t inputs) a) (end t lent w inputs s loads list a runs) o.0).ends o.1).conditions;
             },
@@ -196,7 +197,7 @@ rehearsal_meets_the_fault t inputs L openings r lent w s list a loads runs =
 
 -- WHERE A RUN ANSWERS COMPLETE the reading ends, and the run has left its words
 pub complete_is_the_reading : (t inputs lent : List ℕ) → (lower_answer t (length lent)).number ≡ 0 → (s list : List ℕ) (a F : ℕ) → load_refusal (Graph t lent) inputs s ≡ 0 → run_refusal (Graph t lent) (load_state (Graph t lent) inputs s) list ≡ 0
-    → run_answer (Graph t lent) (load_state (Graph t lent) inputs s) list a ≡ Complete F
+    → run_answer (Graph t lent) (load_state (Graph t lent) inputs s) list a ≡ Ok (Complete F)
     → (words : List ℕ) × (openings : List Opening) × Reads t inputs (ended words openings) × AsRead t words (run_state (Graph t lent) (load_state (Graph t lent) inputs s) list a)
 complete_is_the_reading t inputs lent w s list a F loads runs e =
     let c : (outcome (lowered_words t) (end t lent w inputs s loads list a runs)).answer ≡ COMPLETE
@@ -208,27 +209,27 @@ complete_is_the_reading t inputs lent w s list a F loads runs e =
 -- WHERE IT ANSWERS ZERO STEP the reading meets one; and none answers STRANDED
 module _ (t inputs lent : List ℕ) (w : (lower_answer t (length lent)).number ≡ 0) (s list : List ℕ) (a : ℕ) (loads : load_refusal (Graph t lent) inputs s ≡ 0) where
   module _ (runs : run_refusal (Graph t lent) (load_state (Graph t lent) inputs s) list ≡ 0) where
-    answer_shows : (q : Ran) → run_answer (Graph t lent) (load_state (Graph t lent) inputs s) list a ≡ q
+    answer_shows : (q : Result Ran Refusal) → run_answer (Graph t lent) (load_state (Graph t lent) inputs s) list a ≡ q
         → (outcome (lowered_words t) (end t lent w inputs s loads list a runs)).answer ≡ (ran_outcome q).answer
     answer_shows q e =
         sym (ap (λ o. o.answer) (ran_shown (lowered_words t) (end t lent w inputs s loads list a runs) (made t lent w inputs s loads list a runs)).1)
         ∙ ap (λ x. (ran_outcome x).answer) (sym (answer_is t lent w inputs s loads list a runs) ∙ e)
 
-    pub zero_step_run_is_the_reading : (F i : ℕ) → run_answer (Graph t lent) (load_state (Graph t lent) inputs s) list a ≡ ZeroStep F i
+    pub zero_step_run_is_the_reading : (F i : ℕ) → run_answer (Graph t lent) (load_state (Graph t lent) inputs s) list a ≡ Ok (ZeroStep F i)
         → (L : ℕ) × (openings : List Opening) × Reads t inputs (zero_step L openings)
     zero_step_run_is_the_reading F i e =
-        let c = answer_shows (ZeroStep F i) e in
+        let c = answer_shows (Ok (ZeroStep F i)) e in
         let o = run_is_an_order (lowered_words t) list (loaded_table t inputs) a (λ z. let y : ZERO-STEP ≡ SPENT = sym c ∙ z in omega arith) in
         zero_step_means_the_reading t (lowered_is_checked t lent w) inputs (made_by (lowered_words t) list (loaded_table t inputs) a) (end t lent w inputs s loads list a runs) o.0 o.1 c
 
-    pub run_is_never_stranded : (F : ℕ) → run_answer (Graph t lent) (load_state (Graph t lent) inputs s) list a ≢ Stranded F
+    pub run_is_never_stranded : (F : ℕ) → run_answer (Graph t lent) (load_state (Graph t lent) inputs s) list a ≢ Ok (Stranded F)
     run_is_never_stranded F e =
-        let c = answer_shows (Stranded F) e in
+        let c = answer_shows (Ok (Stranded F)) e in
         let o = run_is_an_order (lowered_words t) list (loaded_table t inputs) a (λ z. let y : STRANDED ≡ SPENT = sym c ∙ z in omega arith) in
         rest_is_never_stranded t (lowered_is_checked t lent w) inputs (made_by (lowered_words t) list (loaded_table t inputs) a) (end t lent w inputs s loads list a runs) o.0 o.1 c
 
     -- and the reading has made no more turns than it has firings
-    pub turns_are_made : (q : Ran) → run_answer (Graph t lent) (load_state (Graph t lent) inputs s) list a ≡ q → (ran_outcome q).answer ≢ SPENT
+    pub turns_are_made : (q : Result Ran Refusal) → run_answer (Graph t lent) (load_state (Graph t lent) inputs s) list a ≡ q → (ran_outcome q).answer ≢ SPENT
         → (o : Reading.Outcome) → Reads t inputs o → turns_made (openings_of o) ≤ ran_firings q
     turns_are_made q e n o r =
         let x = run_is_an_order (lowered_words t) list (loaded_table t inputs) a (λ z. n (sym (answer_shows q e) ∙ z)) in
@@ -240,14 +241,8 @@ module _ (t inputs lent : List ℕ) (w : (lower_answer t (length lent)).number �
         firings_are l p q r = omega arith
 
     -- nor is it refused
-    pub run_is_not_refused : (n : ℕ) → run_answer (Graph t lent) (load_state (Graph t lent) inputs s) list a ≢ Refused n
-    run_is_not_refused n e = never (outcome (lowered_words t) (end t lent w inputs s loads list a runs)) (made t lent w inputs s loads list a runs) (sym (answer_is t lent w inputs s loads list a runs) ∙ e)
+    pub run_is_not_refused : (n : Refusal) → run_answer (Graph t lent) (load_state (Graph t lent) inputs s) list a ≢ Err n
+    run_is_not_refused n e = never (sym (answer_is t lent w inputs s loads list a runs) ∙ e)
       where
-        shows : (x y z : Bool) (f i : ℕ) → pick x (Spent f) (pick y (Complete f) (pick z (ZeroStep f i) (Stranded f))) ≢ Refused n
-        shows true y z f i e = let u : ◌≡◌ {A = ℕ} 0 1 = cc in omega arith
-        shows false true z f i e = let u : ◌≡◌ {A = ℕ} 0 1 = cc in omega arith
-        shows false false true f i e = let u : ◌≡◌ {A = ℕ} 0 1 = cc in omega arith
-        shows false false false f i e = let u : ◌≡◌ {A = ℕ} 0 1 = cc in omega arith
-
-        never : (o : Outcome) (f : ℕ) → ran_by o f ≢ Refused n
-        never o f = shows (eqb o.answer SPENT) (eqb o.answer COMPLETE) (eqb o.answer ZERO-STEP) f o.node
+        never : {r : Ran} → ◌≡◌ {A = Result Ran Refusal} (Ok r) (Err n) → ⊥
+        never e = let u : ◌≡◌ {A = ℕ} 0 1 = cc in omega arith

@@ -18,8 +18,7 @@ use Rattle.reading.proofs.Within.{step_stops_there, one_within, reach_within, du
 use Rattle.reading.specs.Standing.{Standing, begin_stands, end_loops}
 use Rattle.reading.proofs.Bounded.{walk_is_bounded}
 use Rattle.turning.specs.Words.{env_of}
-use Rattle.walking.specs.Walks.{Faults, Dues, Walked}
-use Rattle.walking.specs.declared.Went.TheVariants.{On}
+use Rattle.walking.specs.Walks.{On, Faults, Dues, Walked}
 use Rattle.engine.specs.Answers.{plain_within, told_by, lent_by}
 use Rattle.engine.specs.Plain.{Ended, ZeroStep, Spent}
 

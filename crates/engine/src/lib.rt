@@ -11,6 +11,7 @@ ghost use Rattle.engine.specs.Answers.{plain_within, told_by, lent_by, PlainAnsw
 
 use refusal::{Refusal, Refused};
 use table::Kind;
+use walking::{Halt, Rows};
 
 // Ended, with the turns made; a zero step, with the FOR's row and the turns made; or spent, with the turns made.
 #[derive(Clone, Copy, Debug, PartialEq, Eq)]
@@ -34,19 +35,25 @@ fn read_rows(table: &[u32], n: u32, inputs: &[u32], results: &mut [u32], allowan
     ensures { (made result ≡ told_by allowance (plain_within table.now inputs.now allowance)) × (results.new ≡ lent_by results.old (plain_within table.now inputs.now allowance)) }
 {
     let mut words = turning::first_words(table, n, inputs);
-    let notes = turning::note_ends(table, n);
+    let ends = turning::note_ends(table, n);
+    let rows = Rows {
+        table,
+        size: n,
+        ends: &ends,
+    };
     let mut aside = [0u32; 512];
-    let went = walking::body(table, n, &notes, &mut words, &mut aside, 0, allowance);
-    match went {
-        walking::Went::On(_, left) => {
+    match walking::body(rows, &mut words, &mut aside, 0, allowance) {
+        Ok(end) => {
             turning::put_results(table, n, &words, results);
-            Plain::Ended(allowance - left)
+            Plain::Ended(allowance - end.left)
         }
-        walking::Went::Zero(row, left) => Plain::ZeroStep {
-            row,
-            turns: allowance - left,
+        Err(halt) => match halt {
+            Halt::ZeroStep { row, left } => Plain::ZeroStep {
+                row,
+                turns: allowance - left,
+            },
+            Halt::Spent => Plain::Spent(allowance),
         },
-        walking::Went::Spent => Plain::Spent(allowance),
     }
 }
 

@@ -1,21 +1,16 @@
 -- What the code's proofs need: a full mark that is not 0, and the stores of one firing, made one after the other (`acted_is`).
 -- Assumes nothing.
-use Prim.Native.Nat.{ℕ, zero, suc}
+use Prim.Native.Nat.{ℕ}
 use mathlib.Core.List.{List, ◌++◌}
-use mathlib.Core.Path.{◌≡◌, refl, sym, ap, ◌∙◌}
-use mathlib.Core.Option.{some}
+use mathlib.Core.Path.{◌≡◌, sym, ap, ◌∙◌}
 use mathlib.Core.Bool.{false}
 use lib.ListN.{get_or}
 use Rattle.step.specs.Shown.{given}
 use Rattle.step.specs.declared.Act.{Act}
 use Rattle.step.specs.declared.Record.{Record}
-use Rattle.state.specs.State.{token, Stores, stored, emptied, filled, kept, stored_append}
+use Rattle.state.specs.State.{Stores, stored, emptied, filled, kept, stored_append}
 use Rattle.firing.specs.Acted.{act_stores}
 use Rattle.firing.specs.declared.Row.{Row}
-
-pub token_full : (f x : ℕ) → (f ≡ 0 → ⊥) → some x ≡ token f x
-token_full zero x h = absurd (h refl)
-token_full (suc f) x h = refl
 
 joined : (x1 x2 x3 x4 x5 x6 : Stores) (s s1 s2 s3 s4 s5 s6 : List ℕ) → s1 ≡ stored x1 s → s2 ≡ stored x2 s1 → s3 ≡ stored x3 s2
     → s4 ≡ stored x4 s3 → s5 ≡ stored x5 s4 → s6 ≡ stored x6 s5 → s6 ≡ stored (x1 ++ (x2 ++ (x3 ++ (x4 ++ (x5 ++ x6))))) s

@@ -1,9 +1,10 @@
 // Forks and drains from rows of nodes whose inputs are the numbers of their sources: uses tallied, forks numbered, words written one after another.
 #![tactic(auto)]
 
-ghost use Rattle.std.specs.Prelude.{◌≡◌, [], ◌∷◌, ℕ, ◌+◌, ◌-◌, ◌*◌, ◌<◌, ◌≤◌, eqb, length, get_or};
+ghost use Rattle.std.specs.Prelude.{◌≡◌, [], ◌∷◌, ℕ, ◌+◌, ◌-◌, ◌*◌, ◌<◌, ◌≤◌, eqb, length, get_or, replicate};
 ghost use Rattle.std.proofs.lemmas.List.Edits.{sets};
 ghost use Rattle.word.specs.Words.{flag};
+ghost use Rattle.table.specs.Kinds.{kind_number};
 ghost use Rattle.graph.specs.Below.{joined, total};
 ghost use Rattle.lowered.specs.Lower.{start_words};
 ghost use Rattle.laid.specs.Counts.{leg_at};
@@ -12,9 +13,8 @@ ghost use Rattle.forking.specs.Forked.{added_wires, added_nodes, nodes_by, Freed
 ghost use Rattle.forking.specs.Sorted.{sorted_row, sorted_rows, FirstFits};
 ghost use Rattle.forking.specs.Written.{row_inputs, row_outs, Sourced, stand_of, row_words_by, row_words, out_words, start_by, Scratch, uses_of};
 
-const FORK: u32 = 5;
-
-const DRAIN: u32 = 6;
+use carrying::Passed;
+use step::Kind;
 
 // Scratch: `rows` has the nodes before forks, seven words each, with the numbers of their inputs' sources; `outs` has those of the results.
 // A table of 8,192 words has a place for each wire: how often it is used, the first number that is free for its forks, its sort.
@@ -25,8 +25,8 @@ fn tally(seen: &mut [u32; 8192], x: u32)
     ensures { seen.new ≡ one_more seen.old x }
 {
     if x != graph::ABSENT {
-        let w = graph::wide(x);
-        seen[w] = seen[w] + 1;
+        let w = x as usize;
+        seen[w] += 1;
     }
 }
 
@@ -44,10 +44,8 @@ pub fn tally_rows(rows: &[u32; 28672], nodes: usize, seen: &mut [u32; 8192])
     requires { (nodes ≤ 4096) × ((i : ℕ) → i < nodes → Sourced rows.now i) × Below 10000 seen.old }
     ensures { seen.new ≡ tallied seen.old (joined (row_inputs rows.now) nodes) }
 {
-    let mut i: usize = 0;
-    while i < nodes {
+    for i in 0..nodes {
         tally_row(rows, i, seen);
-        i += 1;
     }
 }
 
@@ -55,10 +53,8 @@ fn tally_outs(outs: &[u32; 512], results: usize, seen: &mut [u32; 8192])
     requires { (results ≤ 512) × ((i : ℕ) → i < results → Place (get_or outs.now i 0)) × Below 30000 seen.old }
     ensures { seen.new ≡ tallied seen.old (joined (row_outs outs.now) results) }
 {
-    let mut i: usize = 0;
-    while i < results {
+    for i in 0..results {
         tally(seen, outs[i]);
-        i += 1;
     }
 }
 
@@ -83,28 +79,33 @@ fn added_nodes(uses: u32) -> u32
     }
 }
 
-// What all wires add.
+// How often each wire is used, the first number that is free for its forks, and how many nodes and wires the forks and drains of all wires add.
 #[derive(Clone, Copy)]
-pub struct Added {
+pub struct Uses {
+    pub count: [u32; 8192],
+    pub free: [u32; 8192],
     pub nodes: u32,
     pub wires: u32,
+    pub ghost few: { Below 40000 count },
+    pub ghost low: { Below 700000000 free },
 }
 
-fn note_free(uses: &[u32; 8192], wires: u32, free: &mut [u32; 8192]) -> Added
-    requires { (wires ≤ 8192) × Below 40000 uses.now × Below 700000000 free.old }
-    ensures { Freed uses.now wires free.new result.nodes result.wires }
+fn note_free(count: [u32; 8192], wires: u32) -> Uses
+    requires { (wires ≤ 8192) × Below 40000 count }
+    ensures { (result.count ≡ count) × Freed count wires result.free result.nodes result.wires }
 {
-    let all = graph::wide(wires);
-    let mut nodes: u32 = 0;
-    let mut added: u32 = 0;
-    let mut w: usize = 0;
-    while w < all {
-        free[w] = wires + added;
-        added = added + added_wires(uses[w]);
-        nodes = nodes + added_nodes(uses[w]);
-        w += 1;
+    let mut free = [0; 8192];
+    let mut nodes = 0;
+    let mut added = 0;
+    for w in 0..wires {
+        let uses = count[w as usize];
+        free[w as usize] = wires + added;
+        added += added_wires(uses);
+        nodes += added_nodes(uses);
     }
-    Added {
+    Uses {
+        count,
+        free,
         nodes,
         wires: added,
     }
@@ -124,15 +125,15 @@ fn leg(x: u32, free: u32, uses: u32, seen: u32) -> u32
     free + 2 * (uses - 2) + 1
 }
 
-fn stand(x: u32, free: &[u32; 8192], uses: &[u32; 8192], seen: &mut [u32; 8192]) -> u32
-    requires { Place x × Below 700000000 free.now × Below 40000 uses.now × Below 40000 seen.old }
-    ensures { (result ≡ stand_of free.now uses.now seen.old x) × (seen.new ≡ one_more seen.old x) }
+fn stand(x: u32, uses: &Uses, seen: &mut [u32; 8192]) -> u32
+    requires { Place x × Below 40000 seen.old }
+    ensures { (result ≡ stand_of uses.now.free uses.now.count seen.old x) × (seen.new ≡ one_more seen.old x) }
 {
     if x == graph::ABSENT {
         return graph::ABSENT;
     }
-    let w = graph::wide(x);
-    let wire = leg(x, free[w], uses[w], seen[w]);
+    let w = x as usize;
+    let wire = leg(x, uses.free[w], uses.count[w], seen[w]);
     tally(seen, x);
     wire
 }
@@ -160,38 +161,34 @@ pub fn four(graph: &mut [u32], at: usize, a: u32, b: u32, c: u32, d: u32)
 pub fn write_results(
     outs: &[u32; 512],
     results: usize,
-    free: &[u32; 8192],
-    uses: &[u32; 8192],
+    uses: &Uses,
     seen: &mut [u32; 8192],
     graph: &mut [u32],
     at: usize,
 )
-    requires { (results ≤ 512) × ((i : ℕ) → i < results → Place (get_or outs.now i 0)) × Below 700000000 free.now × Below 40000 uses.now × Below 30000 seen.old × (at + results ≤ length graph.old) }
-    ensures { graph.new ≡ sets graph.old at (joined (out_words free.now uses.now outs.now seen.old) results) }
+    requires { (results ≤ 512) × ((i : ℕ) → i < results → Place (get_or outs.now i 0)) × Below 30000 seen.old × (at + results ≤ length graph.old) }
+    ensures { graph.new ≡ sets graph.old at (joined (out_words uses.now.free uses.now.count outs.now seen.old) results) }
 {
-    let mut i: usize = 0;
-    while i < results {
-        graph[at + i] = stand(outs[i], free, uses, seen);
-        i += 1;
+    for i in 0..results {
+        graph[at + i] = stand(outs[i], uses, seen);
     }
 }
 
 fn write_row(
     rows: &[u32; 28672],
     i: usize,
-    free: &[u32; 8192],
-    uses: &[u32; 8192],
+    uses: &Uses,
     seen: &mut [u32; 8192],
     graph: &mut [u32],
     at: usize,
 )
-    requires { (i < 4096) × Sourced rows.now i × Below 700000000 free.now × Below 40000 uses.now × Below 30000 seen.old × (at + 7 ≤ length graph.old) }
-    ensures { (seen.new ≡ tallied seen.old (row_inputs rows.now i)) × (graph.new ≡ sets graph.old at (row_words_by free.now uses.now rows.now seen.old i)) }
+    requires { (i < 4096) × Sourced rows.now i × Below 30000 seen.old × (at + 7 ≤ length graph.old) }
+    ensures { (seen.new ≡ tallied seen.old (row_inputs rows.now i)) × (graph.new ≡ sets graph.old at (row_words_by uses.now.free uses.now.count rows.now seen.old i)) }
 {
     let p = 7 * i;
-    let in0 = stand(rows[p + 3], free, uses, seen);
-    let in1 = stand(rows[p + 4], free, uses, seen);
-    let in2 = stand(rows[p + 5], free, uses, seen);
+    let in0 = stand(rows[p + 3], uses, seen);
+    let in1 = stand(rows[p + 4], uses, seen);
+    let in2 = stand(rows[p + 5], uses, seen);
     three(graph, at, rows[p], rows[p + 1], rows[p + 2]);
     four(graph, at + 3, in0, in1, in2, rows[p + 6]);
 }
@@ -199,19 +196,16 @@ fn write_row(
 pub fn write_rows(
     rows: &[u32; 28672],
     nodes: usize,
-    free: &[u32; 8192],
-    uses: &[u32; 8192],
+    uses: &Uses,
     seen: &mut [u32; 8192],
     graph: &mut [u32],
     at: usize,
 )
-    requires { (nodes ≤ 4096) × ((i : ℕ) → i < nodes → Sourced rows.now i) × Below 700000000 free.now × Below 40000 uses.now × Below 10000 seen.old × (at + 7 * nodes ≤ length graph.old) }
-    ensures { graph.new ≡ sets graph.old at (joined (row_words free.now uses.now rows.now seen.old) nodes) }
+    requires { (nodes ≤ 4096) × ((i : ℕ) → i < nodes → Sourced rows.now i) × Below 10000 seen.old × (at + 7 * nodes ≤ length graph.old) }
+    ensures { graph.new ≡ sets graph.old at (joined (row_words uses.now.free uses.now.count rows.now seen.old) nodes) }
 {
-    let mut i: usize = 0;
-    while i < nodes {
-        write_row(rows, i, free, uses, seen, graph, at + 7 * i);
-        i += 1;
+    for i in 0..nodes {
+        write_row(rows, i, uses, seen, graph, at + 7 * i);
     }
 }
 
@@ -221,16 +215,13 @@ fn write_chain(sort: u32, wire: u32, uses: u32, free: u32, graph: &mut [u32], at
     ensures { graph.new ≡ sets graph.old at (fork_words sort wire uses free) }
 {
     let mut x = wire;
-    let mut f = free;
-    let mut k = uses;
     let mut p = at;
-    while 1 < k {
-        three(graph, p, FORK, 0, sort);
+    for k in 0..uses - 1 {
+        let f = free + 2 * k;
+        three(graph, p, Kind::Fork.number(), 0, sort);
         four(graph, p + 3, x, graph::ABSENT, graph::ABSENT, f);
         x = f + 1;
-        f = f + 2;
-        k = k - 1;
-        p = p + 7;
+        p += 7;
     }
 }
 
@@ -239,7 +230,7 @@ fn write_forks_of(sort: u32, wire: u32, uses: u32, free: u32, graph: &mut [u32],
     ensures { graph.new ≡ sets graph.old at (fork_words sort wire uses free) }
 {
     if uses == 0 {
-        three(graph, at, DRAIN, 0, sort);
+        three(graph, at, Kind::Drain.number(), 0, sort);
         four(
             graph,
             at + 3,
@@ -253,51 +244,45 @@ fn write_forks_of(sort: u32, wire: u32, uses: u32, free: u32, graph: &mut [u32],
     write_chain(sort, wire, uses, free, graph, at);
 }
 
-pub fn write_forks(
-    sorts: &[u32; 8192],
-    uses: &[u32; 8192],
-    free: &[u32; 8192],
-    wires: u32,
-    graph: &mut [u32],
-    at: usize,
-)
-    requires { (wires ≤ 8192) × Below 40000 uses.now × Below 700000000 free.now × (at + 7 * total (nodes_by uses.now) wires ≤ length graph.old) }
-    ensures { graph.new ≡ sets graph.old at (joined (fork_words_by sorts.now uses.now free.now) wires) }
+pub fn write_forks(sorts: &[u32; 8192], uses: &Uses, wires: u32, graph: &mut [u32], at: usize)
+    requires { (wires ≤ 8192) × (at + 7 * total (nodes_by uses.now.count) wires ≤ length graph.old) }
+    ensures { graph.new ≡ sets graph.old at (joined (fork_words_by sorts.now uses.now.count uses.now.free) wires) }
 {
     let mut p = at;
-    let mut w: u32 = 0;
-    while w < wires {
-        let i = graph::wide(w);
-        write_forks_of(sorts[i], w, uses[i], free[i], graph, p);
-        p = p + 7 * graph::wide(added_nodes(uses[i]));
-        w += 1;
+    for w in 0..wires {
+        let i = w as usize;
+        write_forks_of(sorts[i], w, uses.count[i], uses.free[i], graph, p);
+        p += 7 * added_nodes(uses.count[i]) as usize;
     }
 }
 
 // A start: 0 and its number among the inputs, or 1 and its constant. Answers how many inputs there are so far.
-fn write_start(kind: u32, word: u32, inputs: u32, graph: &mut [u32], at: usize) -> u32
+fn write_start(kind: table::Kind, word: u32, inputs: u32, graph: &mut [u32], at: usize) -> u32
     requires { (inputs < 512) × (at + 2 ≤ length graph.old) }
-    ensures { (result ≡ inputs + flag (eqb kind 0)) × (graph.new ≡ sets graph.old at (start_by kind word inputs)) }
+    ensures { (result ≡ inputs + flag (eqb (kind_number kind) 0)) × (graph.new ≡ sets graph.old at (start_by (kind_number kind) word inputs)) }
 {
-    if kind == 0 {
-        graph[at] = 0;
-        graph[at + 1] = inputs;
-        return inputs + 1;
+    match kind {
+        table::Kind::Input => {
+            graph[at] = 0;
+            graph[at + 1] = inputs;
+            inputs + 1
+        }
+        _ => {
+            graph[at] = 1;
+            graph[at + 1] = word;
+            inputs
+        }
     }
-    graph[at] = 1;
-    graph[at + 1] = word;
-    inputs
 }
 
-pub fn write_starts(table: &[u32], starts: usize, graph: &mut [u32], at: usize)
-    requires { (6 * starts ≤ length table.now) × (starts ≤ 512) × (at + 2 * starts ≤ length graph.old) }
-    ensures { graph.new ≡ sets graph.old at (joined (start_words table.now) starts) }
+pub fn write_starts(passed: &Passed, starts: u32, graph: &mut [u32], at: usize)
+    requires { (starts ≤ passed.now.rows) × (at + 2 * starts ≤ length graph.old) }
+    ensures { graph.new ≡ sets graph.old at (joined (start_words passed.now.words.now) starts) }
 {
-    let mut inputs: u32 = 0;
-    let mut r: usize = 0;
-    while r < starts {
-        inputs = write_start(table[6 * r], table[6 * r + 1], inputs, graph, at + 2 * r);
-        r += 1;
+    let mut inputs = 0;
+    for r in 0..starts {
+        let word = table::word_at(passed.words, r, 1);
+        inputs = write_start(passed.kind(r), word, inputs, graph, at + 2 * r as usize);
     }
 }
 
@@ -310,22 +295,20 @@ fn note_sort(rows: &[u32; 28672], i: usize, sorts: &mut [u32; 8192])
     let kind = rows[p];
     let code = rows[p + 1];
     let sort = rows[p + 2];
-    let first = graph::wide(rows[p + 6]);
-    sorts[first] = graph::out0_sort(kind, code, sort);
+    let first = rows[p + 6] as usize;
+    sorts[first] = graph::output_sort(kind, code, sort, 0);
     if graph::outputs_of(kind) < 2 {
         return;
     }
-    sorts[first + 1] = graph::out1_sort(kind, code, sort);
+    sorts[first + 1] = graph::output_sort(kind, code, sort, 1);
 }
 
 pub fn note_sorts(rows: &[u32; 28672], nodes: usize, sorts: &mut [u32; 8192])
     requires { (nodes ≤ 4096) × ((i : ℕ) → i < nodes → FirstFits rows.now i) }
     ensures { sorts.new ≡ sorted_rows rows.now nodes sorts.old }
 {
-    let mut i: usize = 0;
-    while i < nodes {
+    for i in 0..nodes {
         note_sort(rows, i, sorts);
-        i += 1;
     }
 }
 
@@ -336,13 +319,12 @@ pub fn count_uses(
     outs: &[u32; 512],
     results: usize,
     wires: u32,
-    uses: &mut [u32; 8192],
-    free: &mut [u32; 8192],
-) -> Added
-    requires { Scratch rows.now nodes outs.now results wires × Below 0 uses.old × Below 0 free.old }
-    ensures { (uses.new ≡ uses_of rows.now nodes outs.now results uses.old) × Freed uses.new wires free.new result.nodes result.wires }
+) -> Uses
+    requires { Scratch rows.now nodes outs.now results wires }
+    ensures { (result.count ≡ uses_of rows.now nodes outs.now results (replicate 8192 0)) × Freed result.count wires result.free result.nodes result.wires }
 {
-    tally_rows(rows, nodes, uses);
-    tally_outs(outs, results, uses);
-    note_free(uses, wires, free)
+    let mut count = [0; 8192];
+    tally_rows(rows, nodes, &mut count);
+    tally_outs(outs, results, &mut count);
+    note_free(count, wires)
 }

@@ -1,5 +1,4 @@
--- The laws that the proofs of the functions share: rows (`Rows`), the table of reads (`Readers`), the table of kinds (`Table`), the table of sorts (`Sorts`).
+-- The laws that the proofs of the functions share: rows (`Rows`), the table of reads (`Readers`), the table of sorts (`Sorts`).
 pub mod Rows
 pub mod Readers
-pub mod Table
 pub mod Sorts

@@ -1,8 +1,9 @@
 -- The table of reads as the code fills it: one read, one node, one more node, one more result.
 -- Assumes nothing.
-use Prim.Native.Nat.{ℕ, zero, suc, ◌+◌, ◌<◌}
-use mathlib.Core.Path.{◌≡◌, refl}
-use mathlib.Core.Bool.{Bool, true, false}
+use Rattle.std.specs.Prelude.{Option as Maybe, None, Some}
+use Rattle.graph.specs.Said.{listed_of}
+use Prim.Native.Nat.{ℕ, ◌+◌, ◌<◌}
+use mathlib.Core.Path.{◌≡◌}
 use mathlib.Core.List.{List, [], ◌∷◌}
 use lib.Dec.{eqb, ltb}
 use lib.ListN.{get_or, set, replicate}
@@ -14,18 +15,13 @@ use Rattle.graph.specs.Refusal.{once_read}
 use Rattle.graph.specs.Counted.{once_more, counted, counted_append, counted_once}
 use Rattle.graph.proofs.Rows.{reads_at}
 
-pub once_more_than_none : {t : ℕ} → (t ≡ 0 → ⊥) → 2 ≡ once_more t
-once_more_than_none {t = zero} h = absurd (h refl)
-once_more_than_none {t = suc t} h = refl
-
-pub one_read : (t : List ℕ) {present : Bool} {w wire x : ℕ} → present ≡ true → w ≡ wire → x ≡ once_more (get_or t w 0)
-    → set t w x ≡ counted t (pick present (wire ∷ []) [])
+pub one_read : (t : List ℕ) {o : Maybe ℕ} {w wire x : ℕ} → o ≡ Some wire → w ≡ wire → x ≡ once_more (get_or t w 0) → set t w x ≡ counted t (listed_of o)
 unfolding counted
 one_read t h e ex = rw (h, ex, e)
 
-pub no_read : (t : List ℕ) (wire : ℕ) {present : Bool} → present ≡ false → t ≡ counted t (pick present (wire ∷ []) [])
+pub no_read : (t : List ℕ) {o : Maybe ℕ} → o ≡ None → t ≡ counted t (listed_of o)
 unfolding counted
-no_read t wire h = rw h
+no_read t h = rw h
 
 pub one_node : (g : List ℕ) (i p : ℕ) → i < node_count g → p ≡ row_place g i → (t : List ℕ) {t1 t2 t3 : List ℕ} (m : ℕ)
     → m ≡ column inputs (kind_of (get_or g p 0))

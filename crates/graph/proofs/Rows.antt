@@ -2,7 +2,7 @@
 -- The kind's number may be no kind; the columns of the table of kinds are then 0, and so the tests agree there too.
 -- Assumes nothing.
 use Prim.Native.Nat.{ℕ, ◌+◌, ◌<◌, ◌≤◌}
-use mathlib.Core.Path.{◌≡◌, refl, sym, ◌∙◌}
+use mathlib.Core.Path.{◌≡◌, refl, sym, ap, ◌∙◌, subst}
 use mathlib.Core.Bool.{Bool, true, false, ◌&&◌}
 use mathlib.Core.List.{List, [], ◌∷◌, ◌++◌}
 use mathlib.Core.Option.{Option, none, some}
@@ -12,10 +12,12 @@ use lib.Dec.{eqb, ltb}
 use lib.ListN.{get_or}
 use Rattle.word.specs.Words.{pick}
 use Rattle.step.specs.Kinds.{Kind, kind_of, inputs, outputs, codes, own_sorts, Input, in0, in1, in2, STREAM, GATE, CARRY, INVARIANT, SPLIT, FORK, DRAIN, OP, PICK}
-use Rattle.graph.specs.Below.{}
+use Rattle.std.specs.Prelude.{Option as Maybe, None, Some, IfSome}
+use Rattle.std.specs.Bool.{then_some}
+use Rattle.graph.specs.Said.{inputs_read}
 use Rattle.step.specs.Kept.{and_true}
-use Rattle.graph.specs.Graph.{absent, start_kind_at, start_word_at, inputs_before, node_count, row_place, node_of, row_at, node_at, input_place, column, output_count, listed, node_reads}
-use Rattle.graph.specs.Refusal.{start_right, row_right, row_below}
+use Rattle.graph.specs.Graph.{absent, wire_count, start_kind_at, start_word_at, inputs_before, node_count, row_place, node_of, row_at, node_at, input_place, column, output_count, listed, node_reads}
+use Rattle.graph.specs.Refusal.{start_right, row_right, row_below, node_below}
 
 pub node_is_row : (g : List ℕ) (i : ℕ) {p : ℕ} → i < node_count g → p ≡ row_place g i → node_at g i ≡ row_at g p
 unfolding node_at
@@ -140,3 +142,43 @@ module _ (g : List ℕ) (i p : ℕ) (h : i < node_count g) (e : p ≡ row_place 
       → b2 ≡ pick (ltb 2 m) (ltb (get_or g (p + 5) 0) wires) true
       → b2 ≡ row_below (node_at g i) wires
   below_to_the_last wires em e0 t0 e1 t1 e2 = rw (below_at_lem wires, ← em, ← e0, t0, ← e1, t1, ← e2)
+
+-- ---- the wires of a row, where its kind has the places
+
+module _ {A : Type 0} (f : Maybe ℕ → A) where
+  chosen : (b : Bool) (w : ℕ) → f (then_some b w) ≡ pick b (f (Some w)) (f None)
+  chosen true w = refl
+  chosen false w = refl
+
+  pub if_there : (b : Bool) (w : ℕ) {t : Maybe ℕ} → t ≡ then_some b w → f t ≡ pick b (f (Some w)) (f None)
+  if_there b w q = ap f q ∙ chosen b w
+
+  module _ (g : List ℕ) (p : ℕ) {ws : List (Maybe ℕ)} (q : ws ≡ inputs_read g p) where
+    pub at_input0 : f (get_or ws 0 None) ≡ pick (ltb 0 (column inputs (kind_of (get_or g p 0)))) (f (Some (get_or g (p + 3) 0))) (f None)
+    at_input0 = if_there (ltb 0 (column inputs (kind_of (get_or g p 0)))) (get_or g (p + 3) 0) (ap (λ (l : List (Maybe ℕ)). get_or l 0 None) q)
+
+    pub at_input1 : f (get_or ws 1 None) ≡ pick (ltb 1 (column inputs (kind_of (get_or g p 0)))) (f (Some (get_or g (p + 4) 0))) (f None)
+    at_input1 = if_there (ltb 1 (column inputs (kind_of (get_or g p 0)))) (get_or g (p + 4) 0) (ap (λ (l : List (Maybe ℕ)). get_or l 1 None) q)
+
+    pub at_input2 : f (get_or ws 2 None) ≡ pick (ltb 2 (column inputs (kind_of (get_or g p 0)))) (f (Some (get_or g (p + 5) 0))) (f None)
+    at_input2 = if_there (ltb 2 (column inputs (kind_of (get_or g p 0)))) (get_or g (p + 5) 0) (ap (λ (l : List (Maybe ℕ)). get_or l 2 None) q)
+
+pub below_there : {n : ℕ} (b : Bool) (w : ℕ) {t : Maybe ℕ} → t ≡ then_some b w → (b ≡ true → w < n) → IfSome t (λ x. x < n)
+below_there {n} b w q h = subst (λ (t : Maybe ℕ). IfSome t (λ x. x < n)) (sym q) (go b h)
+  where
+    go : (b : Bool) → (b ≡ true → w < n) → IfSome (then_some b w) (λ x. x < n)
+    go true h = h refl
+    go false h = tt
+
+module _ (g : List ℕ) (i p : ℕ) (h : i < node_count g) (e : p ≡ row_place g i) (n : ℕ) (small : wire_count g ≤ n) {ws : List (Maybe ℕ)} (q : ws ≡ inputs_read g p) (b : node_below g i ≡ true) where
+  pub in_table0 : IfSome (get_or ws 0 None) (λ w. w < n)
+  in_table0 = below_there (ltb 0 (column inputs (kind_of (get_or g p 0)))) (get_or g (p + 3) 0) (ap (λ (l : List (Maybe ℕ)). get_or l 0 None) q)
+      (λ t. let r = (each_below g i p h e (wire_count g) _ refl b).0 t in omega arith)
+
+  pub in_table1 : IfSome (get_or ws 1 None) (λ w. w < n)
+  in_table1 = below_there (ltb 1 (column inputs (kind_of (get_or g p 0)))) (get_or g (p + 4) 0) (ap (λ (l : List (Maybe ℕ)). get_or l 1 None) q)
+      (λ t. let r = (each_below g i p h e (wire_count g) _ refl b).1 t in omega arith)
+
+  pub in_table2 : IfSome (get_or ws 2 None) (λ w. w < n)
+  in_table2 = below_there (ltb 2 (column inputs (kind_of (get_or g p 0)))) (get_or g (p + 5) 0) (ap (λ (l : List (Maybe ℕ)). get_or l 2 None) q)
+      (λ t. let r = (each_below g i p h e (wire_count g) _ refl b).2 t in omega arith)

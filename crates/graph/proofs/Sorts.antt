@@ -53,9 +53,6 @@ right_row_sorts g i p h e r k eq =
 
 -- ---- the table of wire sorts
 
-pub one_mark : (t : List ℕ) {present : Bool} {w wire : ℕ} (s : ℕ) → present ≡ true → w ≡ wire → set t w s ≡ pick present (set t wire s) t
-one_mark t s h e = rw (h, e)
-
 marks : (m : ℕ) (t : List ℕ) (p s0 s1 : ℕ) {t1 t2 : List ℕ} → m ≤ 2 → t1 ≡ pick (ltb 0 m) (set t p s0) t
     → t2 ≡ pick (ltb 1 m) (set t1 (p + 1) s1) t1 → t2 ≡ sets t p (take m (s0 ∷ s1 ∷ []))
 marks zero t p s0 s1 h e f = f ∙ e

@@ -1,13 +1,13 @@
 // The check of a token graph, refusals 11 to 15, and the readers of its words.
 #![tactic(auto)]
 
-ghost use Rattle.std.specs.Prelude.{◌≡◌, true, ◌&&◌, ℕ, ◌+◌, ◌*◌, ◌<◌, ◌≤◌, eqb, ltb, length, get_or, set, [], ◌∷◌};
+ghost use Rattle.std.specs.Prelude.{◌≡◌, true, ◌&&◌, ℕ, ◌+◌, ◌*◌, ◌<◌, ◌≤◌, eqb, ltb, length, get_or, set, [], ◌∷◌, IfSome};
 ghost use Rattle.std.proofs.lemmas.List.Edits.{sets};
 ghost use Rattle.word.specs.Words.{pick, flag};
 ghost use Rattle.refusal.specs.Numbers.{answer_number};
 ghost use Rattle.step.specs.Kinds.{kind_of, row, columns_of, inputs, outputs, codes, own_sorts, operator_sort, place_sort, Input, Output};
 ghost use Rattle.graph.specs.Below.{every, joined};
-ghost use Rattle.graph.specs.Said.{named, place_at, said};
+ghost use Rattle.graph.specs.Said.{named, place_at, said, inputs_read, below_of, listed_of, marked, sorted_of};
 ghost use Rattle.graph.specs.Counted.{once_more, counted};
 ghost use Rattle.graph.specs.Graph.{absent, node_count, wire_count, start_count, result_count, result_at, row_place, column, node_at, input_place, output_place, output_count, first_at, node_reads, results, input_sort_of, output_sort_of, output_sorts, sort_at};
 ghost use Rattle.graph.specs.Refusal.{has_shape, Shaped, start_right, row_right, node_right, rows_right, node_below, result_below, wires_below, read_once, node_sorted, result_sorted, sorts_agree, graph_refusal};
@@ -198,10 +198,7 @@ fn starts_right(graph: &[u32]) -> bool
 fn spare(present: bool, wire: u32) -> bool
     ensures { result ≡ pick present true (eqb wire absent) }
 {
-    if present {
-        return true;
-    }
-    wire == ABSENT
+    present || wire == ABSENT
 }
 
 fn first_output(kind: u32, next: u32) -> u32
@@ -258,20 +255,30 @@ fn rows_right(graph: &[u32]) -> bool
     requires { Shaped graph.now }
     ensures { result ≡ rows_right graph.now }
 {
-    if !starts_right(graph) {
-        return false;
-    }
-    nodes_right(graph)
+    starts_right(graph) && nodes_right(graph)
+}
+
+// The wire on each input that the kind of the row at this place has.
+fn inputs_at(graph: &[u32], at: usize) -> [Option<u32>; 3]
+    requires { at + 6 < length graph.now }
+    ensures { result ≡ inputs_read graph.now at }
+{
+    let inputs = inputs_of(graph[at]);
+    [
+        (0 < inputs).then_some(graph[at + 3]),
+        (1 < inputs).then_some(graph[at + 4]),
+        (2 < inputs).then_some(graph[at + 5]),
+    ]
 }
 
 // 13: every input and result below W.
-fn below(present: bool, wire: u32, wires: u32) -> bool
-    ensures { result ≡ pick present (ltb wire wires) true }
+fn below(wire: Option<u32>, wires: u32) -> bool
+    ensures { result ≡ below_of wire wires }
 {
-    if present {
-        return wire < wires;
+    match wire {
+        Some(wire) => wire < wires,
+        None => true,
     }
-    true
 }
 
 fn node_below(graph: &[u32], i: usize) -> bool
@@ -279,15 +286,15 @@ fn node_below(graph: &[u32], i: usize) -> bool
     ensures { result ≡ node_below graph.now i }
 {
     let at = row_place(graph, i);
+    let [first, second, third] = inputs_at(graph, at);
     let wires = graph[1];
-    let inputs = inputs_of(graph[at]);
-    if !below(0 < inputs, graph[at + 3], wires) {
+    if !below(first, wires) {
         return false;
     }
-    if !below(1 < inputs, graph[at + 4], wires) {
+    if !below(second, wires) {
         return false;
     }
-    below(2 < inputs, graph[at + 5], wires)
+    below(third, wires)
 }
 
 fn nodes_below(graph: &[u32]) -> bool
@@ -320,10 +327,7 @@ fn wires_below(graph: &[u32]) -> bool
     requires { Shaped graph.now }
     ensures { result ≡ wires_below graph.now }
 {
-    if !nodes_below(graph) {
-        return false;
-    }
-    results_below(graph)
+    nodes_below(graph) && results_below(graph)
 }
 
 // 14: how often each wire is read, counted up to two.
@@ -336,11 +340,11 @@ fn once_more(times: u8) -> u8
     }
 }
 
-fn count(seen: &mut [u8; 8192], present: bool, wire: u32)
-    requires { present ≡ true → wire < 8192 }
-    ensures { seen.new ≡ counted seen.old (pick present (wire ∷ []) []) }
+fn count(seen: &mut [u8; 8192], wire: Option<u32>)
+    requires { IfSome wire (λ w. w < 8192) }
+    ensures { seen.new ≡ counted seen.old (listed_of wire) }
 {
-    if present {
+    if let Some(wire) = wire {
         let w = wide(wire);
         seen[w] = once_more(seen[w]);
     }
@@ -351,10 +355,10 @@ fn count_node(graph: &[u32], i: usize, seen: &mut [u8; 8192])
     ensures { seen.new ≡ counted seen.old (node_reads (node_at graph.now i)) }
 {
     let at = row_place(graph, i);
-    let inputs = inputs_of(graph[at]);
-    count(seen, 0 < inputs, graph[at + 3]);
-    count(seen, 1 < inputs, graph[at + 4]);
-    count(seen, 2 < inputs, graph[at + 5]);
+    let [first, second, third] = inputs_at(graph, at);
+    count(seen, first);
+    count(seen, second);
+    count(seen, third);
 }
 
 fn count_nodes(graph: &[u32], seen: &mut [u8; 8192])
@@ -373,7 +377,7 @@ pub fn count_results(graph: &[u32], seen: &mut [u8; 8192])
 {
     let results = wide(graph[3]);
     for k in 0..results {
-        count(seen, true, result_at(graph, k));
+        count(seen, Some(result_at(graph, k)));
     }
 }
 
@@ -431,11 +435,11 @@ pub fn output_sort(kind: u32, code: u32, sort: u32, place: usize) -> u32
 }
 
 // Words and flags are sorts 0 and 1, so a byte holds a sort.
-fn mark(sorts: &mut [u8; 8192], present: bool, wire: u32, sort: u32)
-    requires { (present ≡ true → wire < 8192) × (sort < 2) }
-    ensures { sorts.new ≡ pick present (set sorts.old wire sort) sorts.old }
+fn mark(sorts: &mut [u8; 8192], wire: Option<u32>, sort: u32)
+    requires { IfSome wire (λ w. w < 8192) × (sort < 2) }
+    ensures { sorts.new ≡ marked sorts.old wire sort }
 {
-    if present {
+    if let Some(wire) = wire {
         let w = wide(wire);
         sorts[w] = sort as u8;
     }
@@ -450,11 +454,14 @@ fn mark_node(graph: &[u32], i: usize, next: u32, sorts: &mut [u8; 8192])
     let code = graph[at + 1];
     let sort = graph[at + 2];
     let outputs = outputs_of(kind);
-    mark(sorts, 0 < outputs, next, output_sort(kind, code, sort, 0));
     mark(
         sorts,
-        1 < outputs,
-        next + 1,
+        (0 < outputs).then_some(next),
+        output_sort(kind, code, sort, 0),
+    );
+    mark(
+        sorts,
+        (1 < outputs).then_some(next + 1),
         output_sort(kind, code, sort, 1),
     );
 }
@@ -481,15 +488,14 @@ pub fn wire_sorts(graph: &[u32]) -> [u8; 8192]
     sorts
 }
 
-fn sorted(present: bool, sorts: &[u8; 8192], wire: u32, sort: u32) -> bool
-    requires { present ≡ true → wire < 8192 }
-    ensures { result ≡ pick present (eqb (get_or sorts.now wire 0) sort) true }
+fn sorted(sorts: &[u8; 8192], wire: Option<u32>, sort: u32) -> bool
+    requires { IfSome wire (λ w. w < 8192) }
+    ensures { result ≡ sorted_of sorts.now wire sort }
 {
-    if present {
-        let w = wide(wire);
-        return u32::from(sorts[w]) == sort;
+    match wire {
+        Some(wire) => u32::from(sorts[wide(wire)]) == sort,
+        None => true,
     }
-    true
 }
 
 fn node_sorted(graph: &[u32], i: usize, sorts: &[u8; 8192]) -> bool
@@ -499,14 +505,14 @@ fn node_sorted(graph: &[u32], i: usize, sorts: &[u8; 8192]) -> bool
     let at = row_place(graph, i);
     let kind = graph[at];
     let sort = graph[at + 2];
-    let inputs = inputs_of(kind);
-    if !sorted(0 < inputs, sorts, graph[at + 3], input_sort(kind, sort, 0)) {
+    let [first, second, third] = inputs_at(graph, at);
+    if !sorted(sorts, first, input_sort(kind, sort, 0)) {
         return false;
     }
-    if !sorted(1 < inputs, sorts, graph[at + 4], input_sort(kind, sort, 1)) {
+    if !sorted(sorts, second, input_sort(kind, sort, 1)) {
         return false;
     }
-    sorted(2 < inputs, sorts, graph[at + 5], sort)
+    sorted(sorts, third, sort)
 }
 
 fn nodes_sorted(graph: &[u32], sorts: &[u8; 8192]) -> bool
@@ -528,7 +534,7 @@ fn results_sorted(graph: &[u32], sorts: &[u8; 8192]) -> bool
 {
     let results = wide(graph[3]);
     for k in 0..results {
-        if !sorted(true, sorts, result_at(graph, k), 0) {
+        if !sorted(sorts, Some(result_at(graph, k)), 0) {
             return false;
         }
     }
@@ -541,10 +547,7 @@ fn sorts_agree(graph: &[u32]) -> bool
 {
     let mut sorts = [0u8; 8192];
     mark_nodes(graph, &mut sorts);
-    if !nodes_sorted(graph, &sorts) {
-        return false;
-    }
-    results_sorted(graph, &sorts)
+    nodes_sorted(graph, &sorts) && results_sorted(graph, &sorts)
 }
 
 // The first refusal of 11 to 15, each over the whole graph before the next.

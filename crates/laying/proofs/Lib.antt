@@ -1,6 +1,6 @@
 -- The laws that the proofs of the functions cite.
 pub mod Putting
-pub mod Copies
+pub mod Entered
 pub mod Uses
 pub mod Nodes
 pub mod Results

@@ -1,9 +1,9 @@
 -- The walk that only counts, and the one that lays down: what each starts from, and what it leaves. Assumes nothing.
-use Prim.Native.Nat.{ℕ, zero, suc, ◌≤◌, ◌<◌}
-use mathlib.Core.Path.{◌≡◌, refl, sym, ◌∙◌}
+use Prim.Native.Nat.{ℕ, ◌≤◌, ◌<◌}
+use mathlib.Core.Path.{◌≡◌, sym, ◌∙◌}
 use mathlib.Core.List.{List}
 use native.Mathlib.Omega.{arith}
-use lib.ListN.{length, get_or, replicate, length-replicate}
+use lib.ListN.{length, replicate, length-replicate}
 use Rattle.table.specs.Rows.{size}
 use Rattle.structure.specs.Structure.{Structure, right_table_has_structure}
 use Rattle.lowered.specs.Sources.{carried}
@@ -11,21 +11,14 @@ use Rattle.lowered.specs.Lower.{carried_into, plain_nodes}
 use Rattle.laid.specs.Bases.{copy_place, node_base_for}
 use Rattle.written.specs.Plain.{Laid}
 use Rattle.written.specs.Places.{RowsRight, all_right}
-use Rattle.carrying.specs.Kept.{Passing, Bases, Low}
+use Rattle.carrying.specs.Kept.{Passing, Noted, Bases, Low}
 use Rattle.carrying.specs.Sized.{sized, bodies_sized}
+use Rattle.carrying.specs.Zeros.{zeros, low_zeros}
 use Rattle.laying.specs.Entering.{Room}
 use Rattle.laying.specs.Using.{Counting, Values}
-use Rattle.laying.specs.Rows.{Noted, Operands, Known, RowsLaid}
+use Rattle.laying.specs.Rows.{Operands, Known, RowsLaid}
 use Rattle.laying.proofs.Nodes.{base_below}
 use Rattle.laid.specs.Those.{none_yet, those_few}
-
-pub zeros : (m i : ℕ) → get_or {A = ℕ} (replicate m 0) i 0 ≡ 0
-zeros zero i = refl
-zeros (suc m) zero = refl
-zeros (suc m) (suc i) = zeros m i
-
-pub low_zeros : (m : ℕ) → Low (replicate m 0)
-low_zeros m r = let z = zeros m r in omega arith
 
 no_copies : (t : List ℕ) (L : ℕ) → copy_place t L 0 ≡ 0
 unfolding copy_place

@@ -1,6 +1,5 @@
 -- How the nodes of the rows are laid down, and the results.
 --
---   Noted             what is noted of the rows before anything is counted
 --   Operands          every operand has its wire
 --   op_row ..          the rows of one OP, PICK, FOR and ARG, with its nodes from i and its wires from w
 --   Known             all numbers are right: bases that fit, and every operand's wire
@@ -19,13 +18,7 @@ use Rattle.lowered.specs.Lower.{plain_nodes, is_out}
 use Rattle.laid.specs.Bases.{node_base}
 use Rattle.laid.specs.Sourced.{operand_number}
 use Rattle.written.specs.Plain.{RightRow}
-use Rattle.carrying.specs.Kept.{Passing, Bodies, Pairs, Uses, Bases, Low, IsUse}
-
-pub record Noted (t : List ℕ) (n : ℕ) (bodies pairs heads links : List ℕ) : Type 0 where
-  pub passing : Passing t n
-  pub bodies_noted : Bodies t n bodies
-  pub pairs_noted : Pairs t pairs
-  pub uses_noted : Uses t (3 * n) heads links
+use Rattle.carrying.specs.Kept.{Passing, Bodies, Pairs, Bases, Low, IsUse}
 
 -- every operand has its wire
 abbrev pub Operands : List ℕ → List ℕ → Type 0

@@ -27,9 +27,6 @@ use Rattle.refusal.specs.declared.Refusal.TheVariants.{Order}
 
 -- ---- answers that are not refused, and the numbers of those that are
 
-pub accepted_zero : {A : Type 0} {r : Result A Refusal} {k : ℕ} → answer_number r ≡ k → (x : A) → r ≡ Ok x → k ≡ 0
-accepted_zero q x w = sym q ∙ ap answer_number w
-
 -- an error that `?` passes on is the one that came
 pub passed_on : {A : Type 0} (r : Result A Refusal) (e : Refusal) → IsErrAnd r (λ x. x ≡ e) → r ≡ Err e
 passed_on (Ok x) e h = absurd h

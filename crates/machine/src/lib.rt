@@ -1,4 +1,4 @@
-// Loading a graph and firing one node, on lent words that anybody may have typed, cut short or altered.
+// Given a graph and firing one node, on lent words that anybody may have typed, cut short or altered.
 #![tactic(auto)]
 
 ghost use Rattle.std.specs.Prelude.{◌≡◌, ◌<◌, length};
@@ -93,41 +93,50 @@ fn record_legal(kind: u32, sort: u32, r: step::Record) -> bool
     }
 }
 
-fn wires_legal(graph: &[u32], state: &[u32]) -> bool
-    requires { Fit graph.now (length state.now) }
-    ensures answer { result ≡ every (wire_count graph.now) (legal_wire graph.now state.now) }
-{
-    let sorts = graph::wire_sorts(graph);
-    let wires = graph::wide(graph[1]);
-    for w in 0..wires {
-        if !token_legal(sorts[w], state[2 * w], state[2 * w + 1]) {
-            return false;
-        }
-    }
-    true
+// A graph that was accepted, and a state of its length: whether the state is legal.
+#[derive(Clone, Copy)]
+struct Fitted<'a> {
+    graph: &'a [u32],
+    state: &'a [u32],
+    ghost accepted: { graph_refusal graph.now ≡ 0 },
+    ghost whole: { length state.now ≡ state_length graph.now },
 }
 
-fn node_legal(graph: &[u32], state: &[u32], i: usize) -> bool
-    requires { Fit graph.now (length state.now) × (i < node_count graph.now) }
-    ensures answer { result ≡ legal_node graph.now state.now i }
-{
-    let row = firing::row_of(graph, i);
-    let wires = graph::wide(graph[1]);
-    let own = firing::record_at(state, wires, i);
-    record_legal(row.kind, row.sort, own)
-}
-
-fn nodes_legal(graph: &[u32], state: &[u32]) -> bool
-    requires { Fit graph.now (length state.now) }
-    ensures answer { result ≡ every (node_count graph.now) (legal_node graph.now state.now) }
-{
-    let nodes = graph::wide(graph[0]);
-    for i in 0..nodes {
-        if !node_legal(graph, state, i) {
-            return false;
+impl<'a> Fitted<'a> {
+    fn wires_legal(&self) -> bool
+        ensures answer { result ≡ every (wire_count self.now.graph.now) (legal_wire self.now.graph.now self.now.state.now) }
+    {
+        let sorts = graph::wire_sorts(self.graph);
+        let wires = graph::wide(self.graph[1]);
+        for w in 0..wires {
+            if !token_legal(sorts[w], self.state[2 * w], self.state[2 * w + 1]) {
+                return false;
+            }
         }
+        true
     }
-    true
+
+    fn node_legal(&self, i: usize) -> bool
+        requires { i < node_count self.now.graph.now }
+        ensures answer { result ≡ legal_node self.now.graph.now self.now.state.now i }
+    {
+        let row = firing::row_of(self.graph, i);
+        let wires = graph::wide(self.graph[1]);
+        let own = firing::record_at(self.state, wires, i);
+        record_legal(row.kind, row.sort, own)
+    }
+
+    fn nodes_legal(&self) -> bool
+        ensures answer { result ≡ every (node_count self.now.graph.now) (legal_node self.now.graph.now self.now.state.now) }
+    {
+        let nodes = graph::wide(self.graph[0]);
+        for i in 0..nodes {
+            if !self.node_legal(i) {
+                return false;
+            }
+        }
+        true
+    }
 }
 
 // The length that a state of this graph has.
@@ -144,7 +153,11 @@ fn is_legal(graph: &[u32], state: &[u32]) -> bool
     requires { graph_refusal graph.now ≡ 0 }
     ensures answer { result ≡ legal graph.now state.now }
 {
-    state.len() == state_length(graph) && wires_legal(graph, state) && nodes_legal(graph, state)
+    if state.len() != state_length(graph) {
+        return false;
+    }
+    let fitted = Fitted { graph, state };
+    fitted.wires_legal() && fitted.nodes_legal()
 }
 
 // 11 to 15, then 17: what every entry that takes a state asks first.
@@ -172,40 +185,50 @@ fn input_count(graph: &[u32]) -> usize
     graph::wide(inputs)
 }
 
-// The word of start k: the input of its number, or its constant.
-fn start_word(graph: &[u32], inputs: &[u32], k: usize) -> u32
-    requires { Given graph.now (length inputs.now) × (k < start_count graph.now) }
-    ensures answer { result ≡ start_word graph.now inputs.now k }
-{
-    let kind = graph[4 + 2 * k];
-    let word = graph[5 + 2 * k];
-    match kind {
-        0 => inputs[graph::wide(word)],
-        _ => word,
-    }
+// A graph that was accepted, and one word for each of its inputs: what its state is loaded with.
+#[derive(Clone, Copy)]
+struct Given<'a> {
+    graph: &'a [u32],
+    inputs: &'a [u32],
+    ghost accepted: { graph_refusal graph.now ≡ 0 },
+    ghost counted: { length inputs.now ≡ input_count graph.now },
 }
 
-// The word at place j of a loaded state.
-fn loaded_word(graph: &[u32], inputs: &[u32], j: usize) -> u32
-    requires { Given graph.now (length inputs.now) }
-    ensures answer { result ≡ loaded_at graph.now inputs.now j }
-{
-    let starts = graph::wide(graph[2]);
-    if j < 2 * starts {
-        if j % 2 == 0 {
-            return 1;
+impl<'a> Given<'a> {
+    // The word of start k: the input of its number, or its constant.
+    fn start_word(&self, k: usize) -> u32
+        requires { k < start_count self.now.graph.now }
+        ensures answer { result ≡ start_word self.now.graph.now self.now.inputs.now k }
+    {
+        let kind = self.graph[4 + 2 * k];
+        let word = self.graph[5 + 2 * k];
+        match kind {
+            0 => self.inputs[graph::wide(word)],
+            _ => word,
         }
-        return start_word(graph, inputs, j / 2);
     }
-    0
-}
 
-fn fill(graph: &[u32], inputs: &[u32], state: &mut [u32])
-    requires { Given graph.now (length inputs.now) × (length state.old ≡ state_length graph.now) }
-    ensures state { state.new ≡ loaded graph.now inputs.now }
-{
-    for j in 0..state.len() {
-        state[j] = loaded_word(graph, inputs, j);
+    // The word at place j of a loaded state.
+    fn loaded_word(&self, j: usize) -> u32
+        ensures answer { result ≡ loaded_at self.now.graph.now self.now.inputs.now j }
+    {
+        let starts = graph::wide(self.graph[2]);
+        if j < 2 * starts {
+            if j % 2 == 0 {
+                return 1;
+            }
+            return self.start_word(j / 2);
+        }
+        0
+    }
+
+    fn fill(&self, state: &mut [u32])
+        requires { length state.old ≡ state_length self.now.graph.now }
+        ensures state { state.new ≡ loaded self.now.graph.now self.now.inputs.now }
+    {
+        for j in 0..state.len() {
+            state[j] = self.loaded_word(j);
+        }
     }
 }
 
@@ -220,7 +243,7 @@ pub fn load(graph: &[u32], inputs: &[u32], state: &mut [u32]) -> Result<(), Refu
     if inputs.len() != input_count(graph) {
         return Err(Refusal::Inputs);
     }
-    fill(graph, inputs, state);
+    Given { graph, inputs }.fill(state);
     Ok(())
 }
 

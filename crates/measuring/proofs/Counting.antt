@@ -2,7 +2,7 @@
 -- Assumes nothing.
 use Prim.Native.Nat.{ℕ, ◌+◌, ◌<◌, ◌≤◌}
 use mathlib.Core.Path.{◌≡◌, refl, sym, ap, ap₂, ◌∙◌, subst}
-use mathlib.Core.Bool.{Bool, true, false, ◌&&◌, false≢true}
+use mathlib.Core.Bool.{Bool, true, false, cond, ◌&&◌, false≢true}
 use mathlib.Core.List.{List}
 use native.Mathlib.Omega.{arith}
 use native.Mathlib.Decide.{dec_le}
@@ -11,6 +11,8 @@ use lib.Dec.{leb}
 use lib.ListN.{get_or}
 use Rattle.step.specs.Kept.{and_true as both}
 use Rattle.graph.specs.Below.{joined}
+use Rattle.table.specs.Rows.{size}
+use Rattle.table.specs.Check.{answer}
 use Rattle.structure.specs.Structure.{Structure}
 use Rattle.lowered.specs.Lower.{plain_nodes, plain_wires, all_users, all_fork_nodes, all_fork_wires, node_total, wire_total, start_total, result_total}
 use Rattle.lowered.specs.Room.{in_limits}
@@ -19,7 +21,7 @@ use Rattle.written.specs.Numbers.{use_count}
 use Rattle.forking.specs.Tallied.{Below, tallied_below}
 use Rattle.forking.specs.Forked.{Freed}
 use Rattle.forking.specs.Written.{row_inputs, row_outs, Scratch, uses_of, joined_long}
-use Rattle.measuring.specs.Passed.{and_false, and_true}
+use Rattle.carrying.specs.Checked.{and_false, and_true}
 use Rattle.measuring.specs.Ready.{starts_few, results_few, scratch_of, uses_of_lem, wires_added, wire_total_of, node_total_of, Ready, Measured}
 
 -- ---- the limits
@@ -141,3 +143,11 @@ module _ (t : List ℕ) (S : Structure t) (rows outs : List ℕ) {n w s r p q : 
             record { plain = en; plain_wires_lem = ew; nodes = nodes_are; wires = wires_are; starts = es; results = er },
           );
         }
+
+-- ---- the answer
+
+pub told_crowded : (t : List ℕ) {k r n : ℕ} → false ≡ in_limits t → k ≡ 10 → r ≡ n → n ≡ size t → answer k r ≡ cond (in_limits t) (answer 0 0) (answer 10 (size t))
+told_crowded t e a b c = ap₂ answer a (b ∙ c) ∙ ap (λ (x : Bool). cond x (answer 0 0) (answer 10 (size t))) e
+
+pub told_fitting : (t : List ℕ) → true ≡ in_limits t → answer 0 0 ≡ cond (in_limits t) (answer 0 0) (answer 10 (size t))
+told_fitting t e = ap (λ (x : Bool). cond x (answer 0 0) (answer 10 (size t))) e

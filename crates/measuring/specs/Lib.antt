@@ -1,3 +1,2 @@
 -- What measuring a table keeps and answers.
-pub mod Passed
 pub mod Ready

@@ -1,17 +1,23 @@
 // How large a table's graph is: its nodes laid down and its uses counted, before a word is written.
 #![tactic(auto)]
 
-ghost use Rattle.std.specs.Prelude.{◌≡◌, ◌&&◌, leb, length};
-ghost use Rattle.carrying.specs.Kept.{Passing};
-ghost use Rattle.forking.specs.Tallied.{Below};
-ghost use Rattle.measuring.specs.Ready.{Measured};
+ghost use Rattle.std.specs.Prelude.{◌≡◌, ◌&&◌, cond, leb, length, IfOk};
+ghost use Rattle.refusal.specs.Numbers.{refused_number, refused_row};
+ghost use Rattle.table.specs.Rows.{size};
+ghost use Rattle.table.specs.Check.{answer};
+ghost use Rattle.lowered.specs.Room as room;
+ghost use Rattle.measuring.specs.Ready.{Ready, Counted};
+
+use carrying::Passed;
+use forking::Uses;
+use refusal::Refused;
 
 const MOST_NODES: u32 = 4096;
 
 const MOST_WIRES: u32 = 8192;
 
-// The counts of a table's graph, and whether they are in their limits: `plain` nodes and `sources`, their wires, before forks; `nodes` and
-// `wires` with them. Where those before forks are over a limit, forks are not counted.
+// The counts of a table's graph in its limits: `plain` nodes and `sources`, their wires, before forks; `nodes` and `wires` with them; the uses of
+// the sources.
 #[derive(Clone, Copy)]
 pub struct Sizes {
     pub plain: u32,
@@ -20,54 +26,48 @@ pub struct Sizes {
     pub wires: u32,
     pub starts: u32,
     pub results: u32,
-    pub room: bool,
+    pub uses: Uses,
 }
 
 fn in_limits(nodes: u32, wires: u32) -> bool
     ensures { result ≡ leb nodes 4096 && leb wires 8192 }
 {
-    if nodes > MOST_NODES {
-        return false;
-    }
-    wires <= MOST_WIRES
+    nodes <= MOST_NODES && wires <= MOST_WIRES
 }
 
-// Lays a table's nodes down and counts everything. A table over a limit before forks is over it with them.
+// Lays a table's nodes down and counts everything; refusal 10 where a count is over its limit. A table over a limit before forks is over it with them.
 pub fn measure(
-    table: &[u32],
-    n: u32,
+    passed: &Passed,
     rows: &mut [u32; 28672],
     outs: &mut [u32; 512],
-    uses: &mut [u32; 8192],
-    free: &mut [u32; 8192],
-) -> Sizes
-    requires { Passing table.now n × (length rows.old ≡ 28672) × (length outs.old ≡ 512) × Below 0 uses.old × Below 0 free.old }
-    ensures { Measured table.now rows.new outs.new uses.new free.new result.plain result.sources result.nodes result.wires result.starts result.results result.room }
+) -> Result<Sizes, Refused>
+    requires { (length rows.old ≡ 28672) × (length outs.old ≡ 512) }
+    ensures answer { answer (refused_number result) (refused_row result) ≡ cond (room.in_limits passed.now.words.now) (answer 0 0) (answer 10 (size passed.now.words.now)) }
+    ensures ready { IfOk result (λ s. Ready passed.now.words.now rows.new outs.new s.uses.count s.uses.free × Counted passed.now.words.now s.plain s.sources s.nodes s.wires s.starts s.results) }
 {
-    let laid = laying::lay(table, n, rows, outs);
-    if in_limits(laid.nodes, laid.wires) {} else {
-        return Sizes {
-            plain: laid.nodes,
-            sources: laid.wires,
-            nodes: laid.nodes,
-            wires: laid.wires,
-            starts: laid.starts,
-            results: laid.results,
-            room: false,
-        };
+    let laid = laying::lay(passed, rows, outs);
+    if !in_limits(laid.nodes, laid.wires) {
+        return Err(passed.crowded());
     }
-    let plain = graph::wide(laid.nodes);
-    let results = graph::wide(laid.results);
-    let added = forking::count_uses(rows, plain, outs, results, laid.wires, uses, free);
-    let nodes = laid.nodes + added.nodes;
-    let wires = laid.wires + added.wires;
-    Sizes {
+    let uses = forking::count_uses(
+        rows,
+        laid.nodes as usize,
+        outs,
+        laid.results as usize,
+        laid.wires,
+    );
+    let nodes = laid.nodes + uses.nodes;
+    let wires = laid.wires + uses.wires;
+    if !in_limits(nodes, wires) {
+        return Err(passed.crowded());
+    }
+    Ok(Sizes {
         plain: laid.nodes,
         sources: laid.wires,
         nodes,
         wires,
         starts: laid.starts,
         results: laid.results,
-        room: in_limits(nodes, wires),
-    }
+        uses,
+    })
 }

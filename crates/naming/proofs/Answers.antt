@@ -1,7 +1,7 @@
 -- The answers of naming, path by path: what each `return` of the code has to show.
 -- Assumes nothing.
 use Prim.Native.Nat.{ℕ, ◌*◌, ◌<◌, ◌≤◌}
-use mathlib.Core.Path.{◌≡◌, sym, ap, ◌∙◌}
+use mathlib.Core.Path.{◌≡◌, refl, sym, ap, ◌∙◌}
 use mathlib.Core.Bool.{Bool, true, false, cond, ◌&&◌}
 use mathlib.Core.List.{List}
 use native.Mathlib.Omega.{arith}
@@ -13,7 +13,7 @@ use Rattle.table.specs.Rows.{size}
 use Rattle.table.specs.Check.{Refusal, answer, table_refusal}
 use Rattle.lowered.specs.Lower.{node_total, wire_total}
 use Rattle.lowered.specs.Room.{in_limits, refused_by}
-use Rattle.measuring.specs.Passed.{and_false, refused_by_lem, passed_by}
+use Rattle.carrying.specs.Checked.{and_false, fitting, refused_by_lem, passed_by}
 use Rattle.measuring.specs.Ready.{Ready}
 use Rattle.naming.specs.Names.{node_names, wire_names}
 use Rattle.naming.specs.Carried.{UsesRight}
@@ -45,9 +45,17 @@ module _ (t : List ℕ) {k r : ℕ} (e : answer k r ≡ table_refusal t) (nodes 
   without z en h f =
       refused (ap (answer 10) en ∙ sym (passed_by t e (names_fit t (length nodes) (length wires)) z ∙ ap (λ (x : Bool). cond x (answer 0 0) (answer 10 (size t))) h)) (λ q. omega arith) f
 
-  pub name_crowded : {x : Bool} {rows : ℕ} → k ≡ 0 → rows ≡ size t → x ≡ in_limits t → x ≡ false → {a b n w : ℕ} → named a b n w ≡ named 10 rows 0 0 → NameAnswer t nodes wires a b n w nodes wires
+  pub name_crowded : {why row : ℕ} → k ≡ 0 → answer why row ≡ cond (in_limits t) (answer 0 0) (answer 10 (size t)) → (why ≡ 0 → ⊥) → NameAnswer t nodes wires why row 0 0 nodes wires
   unfolding names_fit
-  name_crowded z en h y f = without z en (ap (λ (x : Bool). x && (leb (length (node_names t)) (length nodes) && leb (length (wire_names t)) (length wires))) (sym h ∙ y)) f
+  name_crowded {why} {row} z h n = go (in_limits t) refl
+    where
+      go : (b : Bool) → in_limits t ≡ b → NameAnswer t nodes wires why row 0 0 nodes wires
+      go true q = absurd (n (ap (λ (x : Refusal). x.number) (h ∙ ap (λ (x : Bool). cond x (answer 0 0) (answer 10 (size t))) q)))
+      go false q =
+          let d = h ∙ ap (λ (x : Bool). cond x (answer 0 0) (answer 10 (size t))) q in
+          let w : why ≡ 10 = ap (λ (x : Refusal). x.number) d in
+          let r : row ≡ size t = ap (λ (x : Refusal). x.row) d in
+          without z r (ap (λ (x : Bool). x && (leb (length (node_names t)) (length nodes) && leb (length (wire_names t)) (length wires))) q) (ap (λ (x : ℕ). named x row 0 0) w)
 
   pub few_nodes_lent : {rows N p : ℕ} → k ≡ 0 → rows ≡ size t → N ≡ node_total t → p ≡ N → length nodes < 3 * p → {a b n w : ℕ} → named a b n w ≡ named 10 rows 0 0 → NameAnswer t nodes wires a b n w nodes wires
   unfolding names_fit
@@ -59,11 +67,11 @@ module _ (t : List ℕ) {k r : ℕ} (e : answer k r ≡ table_refusal t) (nodes 
       let s = (names_long t).1 in
       without z en (rw (lt-leb (length (wire_names t)) (length wires) (omega arith)) (ap (λ (x : Bool). in_limits t && x) (and_false (leb (length (node_names t)) (length nodes))) ∙ and_false (in_limits t))) f
 
-  pub name_done : {x : Bool} {n w : ℕ} {nodes' wires' : List ℕ} → k ≡ 0 → x ≡ in_limits t → x ≡ true → n ≡ node_total t → w ≡ wire_total t → (length (node_names t) ≤ length nodes) × (length (wire_names t) ≤ length wires)
+  pub name_done : {n w : ℕ} {nodes' wires' : List ℕ} → k ≡ 0 → answer 0 0 ≡ cond (in_limits t) (answer 0 0) (answer 10 (size t)) → n ≡ node_total t → w ≡ wire_total t → (length (node_names t) ≤ length nodes) × (length (wire_names t) ≤ length wires)
       → (nodes' ≡ sets nodes 0 (node_names t)) × (wires' ≡ sets wires 0 (wire_names t)) → NameAnswer t nodes wires 0 0 n w nodes' wires'
   unfolding name_answer names_after name_refusal names_fit
-  name_done z h y en ew fit done =
-      let room : in_limits t ≡ true = sym h ∙ y in
+  name_done z h en ew fit done =
+      let room : in_limits t ≡ true = fitting (in_limits t) (size t) h in
       let fits : in_limits t && (leb (length (node_names t)) (length nodes) && leb (length (wire_names t)) (length wires)) ≡ true
       = rw (room, le-leb (length (node_names t)) (length nodes) fit.0, le-leb (length (wire_names t)) (length wires) fit.1) in
       let q : refused_by t (in_limits t && (leb (length (node_names t)) (length nodes) && leb (length (wire_names t)) (length wires))) ≡ answer 0 0

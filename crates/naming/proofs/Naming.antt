@@ -2,7 +2,7 @@
 -- Assumes nothing.
 use Prim.Native.Nat.{ℕ, ◌+◌, ◌-◌, ◌*◌, ◌<◌, ◌≤◌}
 use mathlib.Core.Path.{◌≡◌, refl, sym, ap, ◌∙◌}
-use mathlib.Core.Logic.{◌≢◌, inl}
+use mathlib.Core.Logic.{◌≢◌, inl, ◌⊎◌, inr}
 use mathlib.Core.Bool.{Bool, true, false}
 use mathlib.Core.List.{List, [], ◌∷◌, ◌++◌}
 use native.Mathlib.Omega.{arith}
@@ -104,6 +104,10 @@ module _ (t : List ℕ) where
 
   pub pick_row_names : (r : ℕ) → kind_at t r ≡ 3 → row_names t r ≡ 0 ∷ r ∷ 0 ∷ []
   pick_row_names r k = op_names r (rw k)
+
+  pub node_row_names : (r : ℕ) {k : ℕ} → k ≡ kind_at t r → (k ≡ 2) ⊎ (k ≡ 3) → row_names t r ≡ 0 ∷ r ∷ 0 ∷ []
+  node_row_names r e (inl k) = op_row_names r (sym e ∙ k)
+  node_row_names r e (inr k) = pick_row_names r (sym e ∙ k)
 
   pub arg_row_names : (r : ℕ) → kind_at t r ≡ 5 → row_names t r ≡ 6 ∷ r ∷ 0 ∷ 7 ∷ r ∷ 0 ∷ []
   unfolding each

@@ -15,7 +15,7 @@ use Rattle.lowered.specs.Roles.{op_node, stream, gate, guard, copy_split, copy_i
 use Rattle.lowered.specs.Lower.{roles, starts, role_outputs, wires, users, plain_nodes, plain_wires}
 use Rattle.laid.specs.Indexed.{each_append}
 use Rattle.carrying.specs.Kept.{Passing}
-use Rattle.measuring.specs.Passed.{structure_of}
+use Rattle.carrying.specs.Checked.{structure_of}
 use Rattle.naming.specs.Names.{role_name, wire_what, wire_name, fork_names, leg_names, node_names, wire_names}
 use Rattle.naming.specs.Parts.{row_names, start_names, output_names_by, fork_names_by, leg_names_by}
 use Rattle.naming.specs.Carried.{UsesRight}

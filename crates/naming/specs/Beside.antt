@@ -29,7 +29,7 @@ use Rattle.lowered.specs.Roles.{Role, Wire, start, output, Use}
 use Rattle.lowered.specs.Lower.{roles, role_kind, start_rows, starts, outputs_by, role_outputs, wires, users, drain_node, fork_node, fork_rows, fork_nodes, fork_wires, all_fork_nodes, all_fork_wires, users_each, all_users, plain_nodes, plain_wires, role_node, nodes_from, forks_from, wire_sort, lowered_nodes, node_total, wire_total}
 use Rattle.lowered.specs.Room.{in_limits, refused_by, check_answer}
 use Rattle.laid.specs.Indexed.{each_long, each_at}
-use Rattle.measuring.specs.Passed.{and_true}
+use Rattle.carrying.specs.Checked.{and_true}
 use Rattle.naming.specs.Names.{role_name, wire_name, fork_name, drain_name, fork_names, leg_names, node_names, wire_names}
 use Rattle.naming.specs.Answers.{names_fit, name_refusal, named, NameAnswer}
 

@@ -5,3 +5,4 @@ pub mod Carried
 pub mod Answers
 pub mod Beside
 pub mod Cases
+pub mod Told

@@ -4,30 +4,23 @@
 ghost use Rattle.std.specs.Prelude.{◌≡◌, cond, [], ◌∷◌, ℕ, ◌+◌, ◌-◌, ◌*◌, ◌<◌, ◌≤◌, leb, length, get_or};
 ghost use Rattle.std.proofs.lemmas.List.Edits.{sets};
 ghost use Rattle.graph.specs.Below.{joined};
+ghost use Rattle.refusal.specs.Numbers.{refused_number, refused_row};
+ghost use Rattle.table.specs.Kinds.{kind_number};
 ghost use Rattle.table.specs.Rows.{kind_at, size};
 ghost use Rattle.table.specs.Bodies.{operand};
 ghost use Rattle.lowered.specs.Sources as sources;
 ghost use Rattle.lowered.specs.Sources.{carried};
 ghost use Rattle.lowered.specs.Lower.{plain_nodes, plain_wires};
-ghost use Rattle.carrying.specs.Kept.{Passing, Bodies};
-ghost use Rattle.forking.specs.Tallied.{Below};
 ghost use Rattle.naming.specs.Names.{node_names, wire_names};
 ghost use Rattle.naming.specs.Carried.{Body, Marked, Marks, UsesRight};
 ghost use Rattle.naming.specs.Parts.{copy_names, row_names, start_names, output_names, output_names_by, first_what, two_outputs, times_over, forks_of, legs_of, fork_names_by, leg_names_by};
-ghost use Rattle.naming.specs.Answers.{named, NameAnswer};
+ghost use Rattle.naming.specs.Answers.{NameAnswer};
+ghost use Rattle.naming.specs.Told.{named_nodes, named_wires};
 
-const ROOM: u32 = 10;
-
-// The kinds of rows.
-const CONST: u32 = 1;
-
-const OP: u32 = 2;
-
-const PICK: u32 = 3;
-
-const FOR: u32 = 4;
-
-const ARG: u32 = 5;
+use carrying::{Notes, Passed};
+use forking::Uses;
+use refusal::Refused;
+use table::Kind;
 
 // What a node is.
 const OP_NODE: u32 = 0;
@@ -55,16 +48,16 @@ const FORKED: u32 = 16;
 const DRAINED: u32 = 32;
 
 // Whether body b is loop l, or lies in it: outward from b.
-fn lies_in(table: &[u32], n: u32, bodies: &[u32; 512], l: u32, b: u32) -> bool
-    requires { Passing table.now n × Bodies table.now n bodies.now × (l < n) × (kind_at table.now l ≡ 4) × Body table.now b }
-    ensures { result ≡ sources.inside table.now l b }
+fn lies_in(notes: &Notes, l: u32, b: u32) -> bool
+    requires { (l < notes.now.passed.rows) × (kind_at notes.now.passed.words.now l ≡ 4) × Body notes.now.passed.words.now b }
+    ensures { result ≡ sources.inside notes.now.passed.words.now l b }
 {
     let mut x = b;
-    while x != n {
+    while x != notes.passed.rows {
         if x == l {
             return true;
         }
-        x = carrying::noted_at(bodies, x);
+        x = carrying::noted_at(&notes.bodies, x);
     }
     false
 }
@@ -74,54 +67,43 @@ fn mark_operands(table: &[u32], r: u32, count: u32, marks: &mut [u32; 512])
     requires { (r < size table.now) × (r < 512) × (count ≤ 3) × ((j : ℕ) → j < count → operand table.now r j < 512) × (length marks.old ≡ 512) }
     ensures { Marked table.now r count marks.old marks.new }
 {
-    let mut j: u32 = 0;
-    while j < count {
+    for j in 0..count {
         let v = table::operand_at(table, r, j);
         marks[v as usize] = 1;
-        j += 1;
     }
 }
 
 // Marks what row r names, where it reads in loop l.
-fn mark_row(table: &[u32], n: u32, bodies: &[u32; 512], l: u32, r: u32, marks: &mut [u32; 512])
-    requires { Passing table.now n × Bodies table.now n bodies.now × (l < n) × (kind_at table.now l ≡ 4) × (r < n) × Marks table.now l r marks.old }
-    ensures { Marks table.now l (r + 1) marks.new }
+fn mark_row(notes: &Notes, l: u32, r: u32, marks: &mut [u32; 512])
+    requires { (l < notes.now.passed.rows) × (kind_at notes.now.passed.words.now l ≡ 4) × (r < notes.now.passed.rows) × Marks notes.now.passed.words.now l r marks.old }
+    ensures { Marks notes.now.passed.words.now l (r + 1) marks.new }
 {
-    let b = carrying::reads_of(table, bodies, r);
-    if lies_in(table, n, bodies, l, b) {
-        let count = table::operand_count(table::kind_at(table, r));
-        mark_operands(table, r, count, marks);
+    let b = notes.reads_of(r);
+    if lies_in(notes, l, b) {
+        let count = table::operand_count(notes.passed.kind(r).number());
+        mark_operands(notes.passed.words, r, count, marks);
     }
 }
 
 // The values that are named in loop l.
-pub fn mark_loop(table: &[u32], n: u32, bodies: &[u32; 512], l: u32) -> [u32; 512]
-    requires { Passing table.now n × Bodies table.now n bodies.now × (l < n) × (kind_at table.now l ≡ 4) }
-    ensures { Marks table.now l n result }
+pub fn mark_loop(notes: &Notes, l: u32) -> [u32; 512]
+    requires { (l < notes.now.passed.rows) × (kind_at notes.now.passed.words.now l ≡ 4) }
+    ensures { Marks notes.now.passed.words.now l notes.now.passed.rows result }
 {
     let mut marks = [0u32; 512];
-    let mut r: u32 = 0;
-    while r < n {
-        mark_row(table, n, bodies, l, r, &mut marks);
-        r += 1;
+    for r in 0..notes.passed.rows {
+        mark_row(notes, l, r, &mut marks);
     }
     marks
 }
 
 // Whether value v is carried into loop l: named in it, at home outside.
-pub fn is_carried(
-    table: &[u32],
-    n: u32,
-    bodies: &[u32; 512],
-    marks: &[u32; 512],
-    l: u32,
-    v: u32,
-) -> bool
-    requires { Passing table.now n × Bodies table.now n bodies.now × (l < n) × (kind_at table.now l ≡ 4) × (v < n) × Marks table.now l n marks.now }
-    ensures { result ≡ carried table.now l v }
+pub fn is_carried(notes: &Notes, marks: &[u32; 512], l: u32, v: u32) -> bool
+    requires { (l < notes.now.passed.rows) × (kind_at notes.now.passed.words.now l ≡ 4) × (v < notes.now.passed.rows) × Marks notes.now.passed.words.now l notes.now.passed.rows marks.now }
+    ensures { result ≡ carried notes.now.passed.words.now l v }
 {
-    let h = carrying::home_of(table, n, bodies, v);
-    if lies_in(table, n, bodies, l, h) {
+    let h = notes.home_of(v);
+    if lies_in(notes, l, h) {
         return false;
     }
     carrying::noted_at(marks, v) == 1
@@ -129,19 +111,17 @@ pub fn is_carried(
 
 // The SPLIT and the INVARIANT of the copy of v for loop l, where there is one. Answers the place behind.
 fn name_copy(
-    table: &[u32],
-    n: u32,
-    bodies: &[u32; 512],
+    notes: &Notes,
     marks: &[u32; 512],
     l: u32,
     v: u32,
     nodes: &mut [u32],
     at: usize,
 ) -> usize
-    requires { Passing table.now n × Bodies table.now n bodies.now × (l < n) × (kind_at table.now l ≡ 4) × (v < n) × Marks table.now l n marks.now × (at + length (copy_names table.now l v) ≤ length nodes.old) }
-    ensures { (result ≡ at + length (copy_names table.now l v)) × (nodes.new ≡ sets nodes.old at (copy_names table.now l v)) }
+    requires { (l < notes.now.passed.rows) × (kind_at notes.now.passed.words.now l ≡ 4) × (v < notes.now.passed.rows) × Marks notes.now.passed.words.now l notes.now.passed.rows marks.now × (at + length (copy_names notes.now.passed.words.now l v) ≤ length nodes.old) }
+    ensures { (result ≡ at + length (copy_names notes.now.passed.words.now l v)) × (nodes.new ≡ sets nodes.old at (copy_names notes.now.passed.words.now l v)) }
 {
-    if is_carried(table, n, bodies, marks, l, v) {
+    if is_carried(notes, marks, l, v) {
         forking::three(nodes, at, COPY_SPLIT, l, v);
         forking::three(nodes, at + 3, COPY_INVARIANT, l, v);
         return at + 6;
@@ -150,112 +130,81 @@ fn name_copy(
 }
 
 // The copies of all values for loop l, by rising row.
-fn name_copies(
-    table: &[u32],
-    n: u32,
-    bodies: &[u32; 512],
-    l: u32,
-    nodes: &mut [u32],
-    at: usize,
-) -> usize
-    requires { Passing table.now n × Bodies table.now n bodies.now × (l < n) × (kind_at table.now l ≡ 4) × (at + length (joined (copy_names table.now l) n) ≤ length nodes.old) }
-    ensures { (result ≡ at + length (joined (copy_names table.now l) n)) × (nodes.new ≡ sets nodes.old at (joined (copy_names table.now l) n)) }
+fn name_copies(notes: &Notes, l: u32, nodes: &mut [u32], at: usize) -> usize
+    requires { (l < notes.now.passed.rows) × (kind_at notes.now.passed.words.now l ≡ 4) × (at + length (joined (copy_names notes.now.passed.words.now l) notes.now.passed.rows) ≤ length nodes.old) }
+    ensures { (result ≡ at + length (joined (copy_names notes.now.passed.words.now l) notes.now.passed.rows)) × (nodes.new ≡ sets nodes.old at (joined (copy_names notes.now.passed.words.now l) notes.now.passed.rows)) }
 {
-    let marks = mark_loop(table, n, bodies, l);
+    let marks = mark_loop(notes, l);
     let mut p = at;
-    let mut v: u32 = 0;
-    while v < n {
-        p = name_copy(table, n, bodies, &marks, l, v, nodes, p);
-        v += 1;
+    for v in 0..notes.passed.rows {
+        p = name_copy(notes, &marks, l, v, nodes, p);
     }
     p
 }
 
 // FOR: the STREAM, the GATE, the guard, then the copies.
-fn name_loop(
-    table: &[u32],
-    n: u32,
-    bodies: &[u32; 512],
-    l: u32,
-    nodes: &mut [u32],
-    at: usize,
-) -> usize
-    requires { Passing table.now n × Bodies table.now n bodies.now × (l < n) × (kind_at table.now l ≡ 4) × (at + length (row_names table.now l) ≤ length nodes.old) }
-    ensures { (result ≡ at + length (row_names table.now l)) × (nodes.new ≡ sets nodes.old at (row_names table.now l)) }
+fn name_loop(notes: &Notes, l: u32, nodes: &mut [u32], at: usize) -> usize
+    requires { (l < notes.now.passed.rows) × (kind_at notes.now.passed.words.now l ≡ 4) × (at + length (row_names notes.now.passed.words.now l) ≤ length nodes.old) }
+    ensures { (result ≡ at + length (row_names notes.now.passed.words.now l)) × (nodes.new ≡ sets nodes.old at (row_names notes.now.passed.words.now l)) }
 {
     forking::three(nodes, at, STREAM, l, 0);
     forking::three(nodes, at + 3, GATE, l, 0);
     forking::three(nodes, at + 6, GUARD, l, 0);
-    name_copies(table, n, bodies, l, nodes, at + 9)
+    name_copies(notes, l, nodes, at + 9)
 }
 
 // The nodes of row r. Answers the place behind.
-fn name_row(
-    table: &[u32],
-    n: u32,
-    bodies: &[u32; 512],
-    r: u32,
-    nodes: &mut [u32],
-    at: usize,
-) -> usize
-    requires { Passing table.now n × Bodies table.now n bodies.now × (r < n) × (at + length (row_names table.now r) ≤ length nodes.old) }
-    ensures { (result ≡ at + length (row_names table.now r)) × (nodes.new ≡ sets nodes.old at (row_names table.now r)) }
+fn name_row(notes: &Notes, r: u32, nodes: &mut [u32], at: usize) -> usize
+    requires { (r < notes.now.passed.rows) × (at + length (row_names notes.now.passed.words.now r) ≤ length nodes.old) }
+    ensures { (result ≡ at + length (row_names notes.now.passed.words.now r)) × (nodes.new ≡ sets nodes.old at (row_names notes.now.passed.words.now r)) }
 {
-    let kind = table::kind_at(table, r);
-    if kind == OP {
-        forking::three(nodes, at, OP_NODE, r, 0);
-        return at + 3;
+    match notes.passed.kind(r) {
+        Kind::Op | Kind::Pick => {
+            forking::three(nodes, at, OP_NODE, r, 0);
+            at + 3
+        }
+        Kind::For => name_loop(notes, r, nodes, at),
+        Kind::Arg => {
+            forking::three(nodes, at, CARRY, r, 0);
+            forking::three(nodes, at + 3, ARG_SPLIT, r, 0);
+            at + 6
+        }
+        _ => at,
     }
-    if kind == PICK {
-        forking::three(nodes, at, OP_NODE, r, 0);
-        return at + 3;
-    }
-    if kind == FOR {
-        return name_loop(table, n, bodies, r, nodes, at);
-    }
-    if kind == ARG {
-        forking::three(nodes, at, CARRY, r, 0);
-        forking::three(nodes, at + 3, ARG_SPLIT, r, 0);
-        return at + 6;
-    }
-    at
 }
 
 // The nodes before forks, row by row.
-fn name_rows(table: &[u32], n: u32, nodes: &mut [u32])
-    requires { Passing table.now n × (length (joined (row_names table.now) n) ≤ length nodes.old) }
-    ensures { nodes.new ≡ sets nodes.old 0 (joined (row_names table.now) n) }
+fn name_rows(notes: &Notes, nodes: &mut [u32])
+    requires { length (joined (row_names notes.now.passed.words.now) notes.now.passed.rows) ≤ length nodes.old }
+    ensures { nodes.new ≡ sets nodes.old 0 (joined (row_names notes.now.passed.words.now) notes.now.passed.rows) }
 {
-    let bodies = carrying::note_bodies(table, n);
-    let mut p: usize = 0;
-    let mut r: u32 = 0;
-    while r < n {
-        p = name_row(table, n, &bodies, r, nodes, p);
-        r += 1;
+    let mut p = 0;
+    for r in 0..notes.passed.rows {
+        p = name_row(notes, r, nodes, p);
     }
 }
 
 // The wire of a start of row r, where it is one. Answers the place behind.
-fn name_start(kind: u32, r: u32, wires: &mut [u32], at: usize) -> usize
-    requires { at + length (cond (leb kind 1) (0 ∷ r ∷ 0 ∷ []) []) ≤ length wires.old }
-    ensures { (result ≡ at + length (cond (leb kind 1) (0 ∷ r ∷ 0 ∷ []) [])) × (wires.new ≡ sets wires.old at (cond (leb kind 1) (0 ∷ r ∷ 0 ∷ []) [])) }
+fn name_start(kind: Kind, r: u32, wires: &mut [u32], at: usize) -> usize
+    requires { at + length (cond (leb (kind_number kind) 1) (0 ∷ r ∷ 0 ∷ []) []) ≤ length wires.old }
+    ensures { (result ≡ at + length (cond (leb (kind_number kind) 1) (0 ∷ r ∷ 0 ∷ []) [])) × (wires.new ≡ sets wires.old at (cond (leb (kind_number kind) 1) (0 ∷ r ∷ 0 ∷ []) [])) }
 {
-    if kind <= CONST {
-        forking::three(wires, at, START, r, 0);
-        return at + 3;
+    match kind {
+        Kind::Input | Kind::Const => {
+            forking::three(wires, at, START, r, 0);
+            at + 3
+        }
+        _ => at,
     }
-    at
 }
 
-fn name_starts(table: &[u32], n: u32, wires: &mut [u32]) -> usize
-    requires { Passing table.now n × (length (joined (start_names table.now) n) ≤ length wires.old) }
-    ensures { (result ≡ length (joined (start_names table.now) n)) × (wires.new ≡ sets wires.old 0 (joined (start_names table.now) n)) }
+fn name_starts(passed: &Passed, wires: &mut [u32]) -> usize
+    requires { length (joined (start_names passed.now.words.now) passed.now.rows) ≤ length wires.old }
+    ensures { (result ≡ length (joined (start_names passed.now.words.now) passed.now.rows)) × (wires.new ≡ sets wires.old 0 (joined (start_names passed.now.words.now) passed.now.rows)) }
 {
-    let mut p: usize = 0;
-    let mut r: u32 = 0;
-    while r < n {
-        p = name_start(table::kind_at(table, r), r, wires, p);
-        r += 1;
+    let mut p = 0;
+    for r in 0..passed.rows {
+        p = name_start(passed.kind(r), r, wires, p);
     }
     p
 }
@@ -309,10 +258,8 @@ fn name_wires(nodes: &[u32], plain: usize, wires: &mut [u32], at: usize)
     ensures { wires.new ≡ sets wires.old at (joined (output_names_by nodes.now) plain) }
 {
     let mut p = at;
-    let mut i: usize = 0;
-    while i < plain {
+    for i in 0..plain {
         p = name_outputs(nodes[3 * i], nodes[3 * i + 1], nodes[3 * i + 2], wires, p);
-        i += 1;
     }
 }
 
@@ -322,11 +269,9 @@ fn repeat(words: &mut [u32], at: usize, count: u32, a: u32, b: u32, c: u32)
     ensures { words.new ≡ sets words.old at (times_over count a b c) }
 {
     let mut p = at;
-    let mut i: u32 = 0;
-    while i < count {
+    for i in 0..count {
         forking::three(words, p, a, b, c);
-        p = p + 3;
-        i += 1;
+        p += 3;
     }
 }
 
@@ -340,26 +285,24 @@ fn name_forks_of(uses: u32, a: u32, b: u32, c: u32, nodes: &mut [u32], at: usize
         return at + 3;
     }
     repeat(nodes, at, uses - 1, FORKED + a, b, c);
-    at + 3 * graph::wide(uses - 1)
+    at + 3 * (uses as usize - 1)
 }
 
 // The FORKs and DRAINs of all wires, from the wires' names.
-fn name_forks(wires: &[u32], sources: usize, uses: &[u32; 8192], nodes: &mut [u32], at: usize)
-    requires { (3 * sources ≤ length wires.now) × (sources ≤ 8192) × Below 40000 uses.now × ((w : ℕ) → w < sources → get_or wires.now (3 * w) 0 ≤ 12) × (at + length (joined (fork_names_by wires.now uses.now) sources) ≤ length nodes.old) }
-    ensures { nodes.new ≡ sets nodes.old at (joined (fork_names_by wires.now uses.now) sources) }
+fn name_forks(wires: &[u32], sources: usize, uses: &Uses, nodes: &mut [u32], at: usize)
+    requires { (3 * sources ≤ length wires.now) × (sources ≤ 8192) × ((w : ℕ) → w < sources → get_or wires.now (3 * w) 0 ≤ 12) × (at + length (joined (fork_names_by wires.now uses.now.count) sources) ≤ length nodes.old) }
+    ensures { nodes.new ≡ sets nodes.old at (joined (fork_names_by wires.now uses.now.count) sources) }
 {
     let mut p = at;
-    let mut w: usize = 0;
-    while w < sources {
+    for w in 0..sources {
         p = name_forks_of(
-            uses[w],
+            uses.count[w],
             wires[3 * w],
             wires[3 * w + 1],
             wires[3 * w + 2],
             nodes,
             p,
         );
-        w += 1;
     }
 }
 
@@ -375,92 +318,71 @@ fn name_legs_of(uses: u32, w: usize, wires: &mut [u32], at: usize) -> usize
     let b = wires[3 * w + 1];
     let c = wires[3 * w + 2];
     repeat(wires, at, 2 * (uses - 1), a, b, c);
-    at + 6 * graph::wide(uses - 1)
+    at + 6 * (uses as usize - 1)
 }
 
 // The legs of all wires, behind the wires before forks.
-fn name_legs(sources: usize, uses: &[u32; 8192], wires: &mut [u32])
-    requires { (sources ≤ 8192) × Below 40000 uses.now × (3 * sources + length (joined (leg_names_by wires.old uses.now) sources) ≤ length wires.old) }
-    ensures { wires.new ≡ sets wires.old (3 * sources) (joined (leg_names_by wires.old uses.now) sources) }
+fn name_legs(sources: usize, uses: &Uses, wires: &mut [u32])
+    requires { (sources ≤ 8192) × (3 * sources + length (joined (leg_names_by wires.old uses.now.count) sources) ≤ length wires.old) }
+    ensures { wires.new ≡ sets wires.old (3 * sources) (joined (leg_names_by wires.old uses.now.count) sources) }
 {
     let mut p = 3 * sources;
-    let mut w: usize = 0;
-    while w < sources {
-        p = name_legs_of(uses[w], w, wires, p);
-        w += 1;
+    for w in 0..sources {
+        p = name_legs_of(uses.count[w], w, wires, p);
     }
 }
 
 // All names in their order: the nodes before forks give their outputs' names, and these the names of forks and legs.
 fn write_names(
-    table: &[u32],
-    n: u32,
-    uses: &[u32; 8192],
+    notes: &Notes,
+    uses: &Uses,
     plain: usize,
     sources: usize,
     nodes: &mut [u32],
     wires: &mut [u32],
 )
-    requires { Passing table.now n × UsesRight table.now uses.now × (plain ≡ plain_nodes table.now) × (sources ≡ plain_wires table.now) × (plain ≤ 4096) × (sources ≤ 8192) × (length (node_names table.now) ≤ length nodes.old) × (length (wire_names table.now) ≤ length wires.old) }
-    ensures { (nodes.new ≡ sets nodes.old 0 (node_names table.now)) × (wires.new ≡ sets wires.old 0 (wire_names table.now)) }
+    requires { UsesRight notes.now.passed.words.now uses.now.count × (plain ≡ plain_nodes notes.now.passed.words.now) × (sources ≡ plain_wires notes.now.passed.words.now) × (plain ≤ 4096) × (sources ≤ 8192) × (length (node_names notes.now.passed.words.now) ≤ length nodes.old) × (length (wire_names notes.now.passed.words.now) ≤ length wires.old) }
+    ensures { (nodes.new ≡ sets nodes.old 0 (node_names notes.now.passed.words.now)) × (wires.new ≡ sets wires.old 0 (wire_names notes.now.passed.words.now)) }
 {
-    name_rows(table, n, nodes);
-    let behind = name_starts(table, n, wires);
+    name_rows(notes, nodes);
+    let behind = name_starts(&notes.passed, wires);
     name_wires(nodes, plain, wires, behind);
     name_forks(wires, sources, uses, nodes, 3 * plain);
     name_legs(sources, uses, wires);
 }
 
-// What naming answers: 0, a row of 0, and how many nodes and wires were named; or a refusal's number and row.
-#[derive(Clone, Copy)]
+// How many nodes and wires were named.
+#[derive(Clone, Copy, Debug, PartialEq, Eq)]
 pub struct Named {
-    pub number: u32,
-    pub row: u32,
     pub nodes: u32,
     pub wires: u32,
 }
 
-fn refused(number: u32, row: u32) -> Named
-    ensures { named result.number result.row result.nodes result.wires ≡ named number row 0 0 }
-{
-    Named {
-        number,
-        row,
-        nodes: 0,
-        wires: 0,
-    }
-}
-
 // Names the nodes and wires of a table's graph in the lent words, three words each: what it is, the row, and the row of the value carried in.
-pub fn name_graph(table: &[u32], nodes: &mut [u32], wires: &mut [u32]) -> Named
-    ensures answer { NameAnswer table.now nodes.old wires.old result.number result.row result.nodes result.wires nodes.new wires.new }
+pub fn name_graph(table: &[u32], nodes: &mut [u32], wires: &mut [u32]) -> Result<Named, Refused>
+    ensures answer { NameAnswer table.now nodes.old wires.old (refused_number result) (refused_row result) (named_nodes result) (named_wires result) nodes.new wires.new }
 {
-    let checked = table::check_rows(table);
-    if checked.number != 0 {
-        return refused(checked.number, checked.row);
+    let passed = Passed::check(table)?;
+    let mut rows = [0; 28672];
+    let mut outs = [0; 512];
+    let sizes = measuring::measure(&passed, &mut rows, &mut outs)?;
+    if nodes.len() < 3 * (sizes.nodes as usize) {
+        return Err(passed.crowded());
     }
-    let n = (table.len() / 6) as u32;
-    let mut rows = [0u32; 28672];
-    let mut outs = [0u32; 512];
-    let mut uses = [0u32; 8192];
-    let mut free = [0u32; 8192];
-    let sizes = measuring::measure(table, n, &mut rows, &mut outs, &mut uses, &mut free);
-    if !sizes.room {
-        return refused(ROOM, n);
+    if wires.len() < 3 * (sizes.wires as usize) {
+        return Err(passed.crowded());
     }
-    if nodes.len() < 3 * graph::wide(sizes.nodes) {
-        return refused(ROOM, n);
-    }
-    if wires.len() < 3 * graph::wide(sizes.wires) {
-        return refused(ROOM, n);
-    }
-    let plain = graph::wide(sizes.plain);
-    let sources = graph::wide(sizes.sources);
-    write_names(table, n, &uses, plain, sources, nodes, wires);
-    Named {
-        number: 0,
-        row: 0,
+    let notes = Notes::new(passed);
+    write_names(
+        &notes,
+        &sizes.uses,
+        sizes.plain as usize,
+        sizes.sources as usize,
+        nodes,
+        wires,
+    );
+    Ok(Named {
         nodes: sizes.nodes,
         wires: sizes.wires,
-    }
+    })
 }

@@ -75,16 +75,6 @@ marks_result g w n h e =
     ap (ltb 0) (e ∙ counted_at (results g (result_count g)) zeros w 0 there (get_or-replicate n w 0 0 h) ∙ ap up_to_two none)
     ∙ counted_none (times w (results g (result_count g)))
 
-pub mark_none : (s : List ℕ) (m w : ℕ) {b : Bool} → m ≡ 0 → b ≡ is_empty (get_or s (2 * w) 0) → b ≡ (ltb 0 m || not (is_full s w))
-mark_none s m w e h = h ∙ twice (is_empty (get_or s (2 * w) 0)) ∙ sym (ap (λ (x : ℕ). ltb 0 x || not (is_full s w)) e)
-  where
-    twice : (t : Bool) → t ≡ not (not t)
-    twice true = refl
-    twice false = refl
-
-pub mark_some : (s : List ℕ) (m w : ℕ) → (m ≡ 0 → ⊥) → true ≡ (ltb 0 m || not (is_full s w))
-mark_some s m w n = sym (ap (λ (x : Bool). x || not (is_full s w)) (lt-ltb 0 m (omega arith)))
-
 pub other_is : (g s : List ℕ) (w : ℕ) → w < 8192 → {marks : List ℕ} → marks ≡ counted (replicate 8192 0) (results g (result_count g))
     → {b : Bool} → b ≡ (ltb 0 (get_or marks w 0) || not (is_full s w)) → b ≡ other_empty g s w
 other_is g s w h e B =
@@ -104,14 +94,6 @@ module _ (g s : List ℕ) (i : ℕ) {W : ℕ} (e : W ≡ wire_count g) where
 pub holds_token_lem : (t : Maybe ℕ) → holds_token (token_of t) ≡ is_some t
 holds_token_lem None = refl
 holds_token_lem (Some x) = refl
-
-pub zero_held : (t : Maybe ℕ) → t ≡ Some 0 → holds_zero (token_of t) ≡ true
-zero_held t e = rw e
-
-pub no_zero_held : (t : Maybe ℕ) → (t ≡ Some 0 → ⊥) → holds_zero (token_of t) ≡ false
-no_zero_held None h = refl
-no_zero_held (Some zero) h = absurd (h refl)
-no_zero_held (Some (suc x)) h = ne_eqb (suc x) 0 (λ q. omega arith)
 
 -- only the first kind is a STREAM, and what is no kind is none
 pub not_stream : {o : Option Kind} (κ : Code) → (tag_of the_type κ ≡ 0 → ⊥) → some (named κ) ≡ o → (c s w0 w1 w2 f : ℕ) → is_stream (node_of o c s w0 w1 w2 f) ≡ false

@@ -7,6 +7,7 @@ ghost use Rattle.step.specs.Shown.{given};
 ghost use Rattle.graph.specs.Refusal.{graph_refusal};
 ghost use Rattle.graph.specs.Below.{every};
 ghost use Rattle.graph.specs.Graph.{node_count};
+ghost use Rattle.state.specs.Legal.{state_length};
 ghost use Rattle.state.specs.Net.{net_of};
 ghost use Rattle.state.specs.Run.{turn, follow, sweep, finish, is_full, complete, results_full, others_empty, phases_zero, holds_token, holds_zero, zero_step_at, zero_step, outcome};
 ghost use Rattle.run.specs.Numbers.{RunAnswer};
@@ -89,34 +90,6 @@ fn sweep_all(graph: &[u32], state: &mut [u32], allowance: u64) -> u64
     }
 }
 
-// What the answer asks of the state that a run ends in.
-
-fn none_ready(graph: &[u32], state: &[u32]) -> bool
-    requires { Runs graph.now (length state.now) }
-    ensures answer { result ≡ every (node_count graph.now) (idle graph.now state.now) }
-{
-    let nodes = graph::wide(graph[0]);
-    for i in 0..nodes {
-        if firing::node_ready(graph, state, i) {
-            return false;
-        }
-    }
-    true
-}
-
-fn results_full(graph: &[u32], state: &[u32]) -> bool
-    requires { Runs graph.now (length state.now) }
-    ensures answer { result ≡ results_full graph.now state.now }
-{
-    let results = graph::wide(graph[3]);
-    for k in 0..results {
-        if firing::is_empty(state, graph::wide(graph::result_at(graph, k))) {
-            return false;
-        }
-    }
-    true
-}
-
 // A wire that is no result is empty: `marks` counts how often each wire is one.
 fn rest_empty(state: &[u32], mark: u8, wire: usize) -> bool
     requires { 2 * wire + 1 < length state.now }
@@ -128,42 +101,6 @@ fn rest_empty(state: &[u32], mark: u8, wire: usize) -> bool
     }
 }
 
-fn others_empty(graph: &[u32], state: &[u32]) -> bool
-    requires { Runs graph.now (length state.now) }
-    ensures answer { result ≡ others_empty graph.now state.now }
-{
-    let mut marks = [0u8; 8192];
-    graph::count_results(graph, &mut marks);
-    let wires = graph::wide(graph[1]);
-    for w in 0..wires {
-        if !rest_empty(state, marks[w], w) {
-            return false;
-        }
-    }
-    true
-}
-
-fn phases_zero(graph: &[u32], state: &[u32]) -> bool
-    requires { Runs graph.now (length state.now) }
-    ensures answer { result ≡ phases_zero graph.now state.now }
-{
-    let nodes = graph::wide(graph[0]);
-    let wires = graph::wide(graph[1]);
-    for i in 0..nodes {
-        if state[2 * wires + 4 * i] != 0 {
-            return false;
-        }
-    }
-    true
-}
-
-fn is_complete(graph: &[u32], state: &[u32]) -> bool
-    requires { Runs graph.now (length state.now) }
-    ensures answer { result ≡ complete graph.now state.now }
-{
-    results_full(graph, state) && others_empty(graph, state) && phases_zero(graph, state)
-}
-
 // Three tokens, and a step of 0.
 fn stalled(seen: step::Seen) -> bool
     ensures answer { result ≡ (holds_token (given seen.inputs 0) && (holds_zero (given seen.inputs 1) && holds_token (given seen.inputs 2))) }
@@ -172,47 +109,115 @@ fn stalled(seen: step::Seen) -> bool
     start.is_some() && step == Some(0) && bound.is_some()
 }
 
-fn zero_step_at(graph: &[u32], state: &[u32], i: usize) -> bool
-    requires { Runs graph.now (length state.now) × (i < node_count graph.now) }
-    ensures answer { result ≡ zero_step_at graph.now state.now i }
-{
-    let row = firing::row_of(graph, i);
-    let Ok(Kind::Stream) = Kind::try_from(row.kind) else {
-        return false;
-    };
-    let wires = graph::wide(graph[1]);
-    let own = firing::record_at(state, wires, i);
-    if own.phase != 0 {
-        return false;
-    }
-    stalled(firing::see(state, row))
+// The state that a run ends in, of a graph that was accepted: what the answer asks of it.
+#[derive(Clone, Copy)]
+struct Reached<'a> {
+    graph: &'a [u32],
+    state: &'a [u32],
+    ghost accepted: { graph_refusal graph.now ≡ 0 },
+    ghost whole: { length state.now ≡ state_length graph.now },
 }
 
-// The lowest such STREAM.
-fn zero_step(graph: &[u32], state: &[u32]) -> Option<u32>
-    requires { Runs graph.now (length state.now) }
-    ensures answer { unwrap_or result (node_count graph.now) ≡ zero_step graph.now state.now }
-    ensures below { IfSome result (λ node. node < node_count graph.now) }
-{
-    for node in 0..graph[0] {
-        if zero_step_at(graph, state, graph::wide(node)) {
-            return Some(node);
+impl<'a> Reached<'a> {
+    fn none_ready(&self) -> bool
+        ensures answer { result ≡ every (node_count self.now.graph.now) (idle self.now.graph.now self.now.state.now) }
+    {
+        let nodes = graph::wide(self.graph[0]);
+        for i in 0..nodes {
+            if firing::node_ready(self.graph, self.state, i) {
+                return false;
+            }
         }
+        true
     }
-    None
+
+    fn results_full(&self) -> bool
+        ensures answer { result ≡ results_full self.now.graph.now self.now.state.now }
+    {
+        let results = graph::wide(self.graph[3]);
+        for k in 0..results {
+            if firing::is_empty(self.state, graph::wide(graph::result_at(self.graph, k))) {
+                return false;
+            }
+        }
+        true
+    }
+
+    fn others_empty(&self) -> bool
+        ensures answer { result ≡ others_empty self.now.graph.now self.now.state.now }
+    {
+        let mut marks = [0u8; 8192];
+        graph::count_results(self.graph, &mut marks);
+        let wires = graph::wide(self.graph[1]);
+        for w in 0..wires {
+            if !rest_empty(self.state, marks[w], w) {
+                return false;
+            }
+        }
+        true
+    }
+
+    fn phases_zero(&self) -> bool
+        ensures answer { result ≡ phases_zero self.now.graph.now self.now.state.now }
+    {
+        let nodes = graph::wide(self.graph[0]);
+        let wires = graph::wide(self.graph[1]);
+        for i in 0..nodes {
+            if self.state[2 * wires + 4 * i] != 0 {
+                return false;
+            }
+        }
+        true
+    }
+
+    fn is_complete(&self) -> bool
+        ensures answer { result ≡ complete self.now.graph.now self.now.state.now }
+    {
+        self.results_full() && self.others_empty() && self.phases_zero()
+    }
+
+    fn zero_step_at(&self, i: usize) -> bool
+        requires { i < node_count self.now.graph.now }
+        ensures answer { result ≡ zero_step_at self.now.graph.now self.now.state.now i }
+    {
+        let row = firing::row_of(self.graph, i);
+        let Ok(Kind::Stream) = Kind::try_from(row.kind) else {
+            return false;
+        };
+        let wires = graph::wide(self.graph[1]);
+        let own = firing::record_at(self.state, wires, i);
+        if own.phase != 0 {
+            return false;
+        }
+        stalled(firing::see(self.state, row))
+    }
+
+    // The lowest such STREAM.
+    fn zero_step(&self) -> Option<u32>
+        ensures answer { unwrap_or result (node_count self.now.graph.now) ≡ zero_step self.now.graph.now self.now.state.now }
+        ensures below { IfSome result (λ node. node < node_count self.now.graph.now) }
+    {
+        for node in 0..self.graph[0] {
+            if self.zero_step_at(graph::wide(node)) {
+                return Some(node);
+            }
+        }
+        None
+    }
 }
 
 pub fn ended(graph: &[u32], state: &[u32], firings: u64) -> Ran
     requires { Runs graph.now (length state.now) }
     ensures answer { result ≡ ran_by (outcome graph.now state.now) firings }
 {
-    if !none_ready(graph, state) {
+    let end = Reached { graph, state };
+    if !end.none_ready() {
         return Ran::Spent(firings);
     }
-    if is_complete(graph, state) {
+    if end.is_complete() {
         return Ran::Complete(firings);
     }
-    match zero_step(graph, state) {
+    match end.zero_step() {
         Some(node) => Ran::ZeroStep(firings, node),
         None => Ran::Stranded(firings),
     }

@@ -12,9 +12,7 @@ use lib.ListN.{length, take, drop, replicate, length-drop, length-replicate}
 use lib.Seq.{sets, sets-eq}
 use Rattle.sheet.specs.Reader.{bad, read_sheet}
 use Rattle.sheet.specs.Answers.{ReadAnswer, read_answer, words_after}
-use Rattle.sheet_read.specs.declared.Took.{Took}
-use Rattle.sheet_read.specs.declared.Took.TheVariants.{Word, Bad}
-use Rattle.sheet_read.specs.Told.{worth, Filled, Stores}
+use Rattle.sheet_read.specs.Told.{worth, Filled, Stores, Took, Word, Bad}
 use Rattle.sheet_read.proofs.Names.{due}
 
 -- the scratch words are enough for 512 rows

@@ -11,16 +11,13 @@ use mathlib.Core.Path.{◌≡◌, refl, sym, ◌∙◌}
 use native.Mathlib.Omega.{arith}
 use native.Mathlib.Numerals.{add-one}
 use borrow.Author.Tests.{eq-eqb, ne_eqb, le-leb, lt-leb, leb-true, leb-false}
-use denote.Enum.Declared.{tag_of}
 use lib.Dec.{leb}
 use lib.ListN.{get_or, length, drop, drop_of_length-le}
 use lib.Seq.{drop-cons}
 use Rattle.sheet.specs.Sheet.{feed, word_key}
 use Rattle.sheet.specs.Reader.{Read, got, bad, and_then, fixed_from, is_digit, digits_from, number_from, most_word}
-use Rattle.sheet_read.specs.declared.Took.{Took}
-use Rattle.sheet_read.specs.declared.Took.TheVariants.{Word, Bad}
-use Rattle.sheet_read.specs.contracts.Took.{the_type}
-use Rattle.sheet_read.specs.Told.{told, place_of, Reads, line_from}
+use Rattle.std.specs.Prelude.{Ok, Err}
+use Rattle.sheet_read.specs.Told.{told, place_of, Reads, line_from, Took, Word, Bad}
 
 pub next : (l : List ℕ) (n : ℕ) → n < length l → drop n l ≡ get_or l n 0 ∷ drop (n + 1) l
 next l n h = rw (add-one n) (drop-cons l n 0 h)
@@ -141,17 +138,26 @@ module _ (text : List ℕ) (least most p : ℕ) where
 
 -- ---- one part behind another
 
--- a part that stops is all there is
-pub no_more : {B : Type 0} (text : List ℕ) (w : Took) (k : ℕ → List ℕ → Read B) → tag_of the_type w ≡ 1 → and_then (told text w) k ≡ bad (drop (place_of w) text)
-no_more text (Word v p) k h = absurd (omega arith)
-no_more text (Bad p) k h = refl
+-- whether a reader came through
+abbrev pub Goes : Took → Type 0
+Goes (Ok x) = Unit {0}
+Goes (Err s) = ⊥
 
-pub stopped : (text : List ℕ) (w : Took) (most : ℕ) {what : Read ℕ} → tag_of the_type w ≡ 1 → place_of w ≤ length text → bad (drop (place_of w) text) ≡ what → Reads text w most what
-stopped text (Word v p) most h q e = absurd (omega arith)
-stopped text (Bad p) most h q e = stops q (sym e)
+abbrev pub Stops : Took → Type 0
+Stops (Ok x) = ⊥
+Stops (Err s) = Unit {0}
+
+-- a part that stops is all there is
+pub no_more : {B : Type 0} (text : List ℕ) (w : Took) (k : ℕ → List ℕ → Read B) → Stops w → and_then (told text w) k ≡ bad (drop (place_of w) text)
+no_more text (Ok x) k h = absurd h
+no_more text (Err s) k h = refl
+
+pub stopped : (text : List ℕ) (w : Took) (most : ℕ) {what : Read ℕ} → Stops w → place_of w ≤ length text → bad (drop (place_of w) text) ≡ what → Reads text w most what
+stopped text (Ok x) most h q e = absurd h
+stopped text (Err s) most h q e = stops q (sym e)
 
 module _ (text : List ℕ) (at k : ℕ) where
-  pub line_no_key : {w : Took} → Reads text w k (fixed_from (word_key k) k (drop at text)) → tag_of the_type w ≡ 1 → Reads text w most_word (line_from k (drop at text))
+  pub line_no_key : {w : Took} → Reads text w k (fixed_from (word_key k) k (drop at text)) → Stops w → Reads text w most_word (line_from k (drop at text))
   unfolding line_from
   line_no_key {w} r t = stopped text w most_word t r.inside (sym (rw (← r.is) (no_more text w (λ _ rest. number_from 0 most_word rest) t)))
 

@@ -11,7 +11,6 @@ use mathlib.Core.Logic.{◌⊎◌, inl, inr}
 use native.Mathlib.Omega.{arith}
 use native.Mathlib.Numerals.{add-one}
 use borrow.Author.Tests.{le-leb, lt-leb, leb-true, leb-false}
-use denote.Enum.Declared.{tag_of}
 use lib.Dec.{eqb, leb}
 use lib.ListN.{get_or, length, take, drop, length-append, length-drop, drop_of_length-le}
 use lib.Seq.{sets, sets-eq, length-sets, drop-cons, take_at}
@@ -19,11 +18,9 @@ use Rattle.table.specs.Rows.{RowKind, row_kinds, no_kind, name_of, of_each}
 use Rattle.sheet.specs.Sheet.{decimal, line_of, feed, row_key, kind_key}
 use Rattle.sheet.specs.Decimal.{ten_digits}
 use Rattle.sheet.specs.Reader.{Read, got, bad, farthest, fixed_from, names_from}
-use Rattle.sheet_read.specs.declared.Took.{Took}
-use Rattle.sheet_read.specs.declared.Took.TheVariants.{Word, Bad}
-use Rattle.sheet_read.specs.contracts.Took.{the_type}
-use Rattle.sheet_read.specs.Told.{told, Reads}
-use Rattle.sheet_read.proofs.Bytes.{stops}
+use Rattle.sheet_read.specs.Told.{told, Reads, Took, Bad}
+use Rattle.std.specs.Prelude.{Ok, Err}
+use Rattle.sheet_read.proofs.Bytes.{Goes, stops}
 
 pub farther_of : (text : List ℕ) (p q : ℕ) → p ≤ length text → q ≤ length text
     → farthest {A = ℕ} (bad (drop p text)) (bad (drop q text)) ≡ bad (drop (cond (leb q p) p q) text)
@@ -111,16 +108,16 @@ module _ (us : List RowKind) (d : RowKind) (text : List ℕ) (at far k : ℕ) {w
 
   pub names_found : {w : Took} → k < length us → k ≤ 4294967295
       → farthest (bad (drop far text)) (names_from (drop k us) k (drop at text)) ≡ what
-      → Reads text w k (fixed_from ((get_or us k d).name ++ feed) k (drop at text)) → tag_of the_type w ≡ 0 → Reads text w 4294967295 what
+      → Reads text w k (fixed_from ((get_or us k d).name ++ feed) k (drop at text)) → Goes w → Reads text w 4294967295 what
   names_found {w} h m e q t = let s = q.small in record {
     is = by w t (fixed_from ((get_or us k d).name ++ feed) k (drop at text)) (names_from (drop (k + 1) us) (k + 1) (drop at text)) q.is ∙ ap (farthest (bad (drop far text))) (sym (one_more_lem us d k (drop at text) h)) ∙ e;
     inside = q.inside;
     small = omega arith;
   }
     where
-      by : (w : Took) → tag_of the_type w ≡ 0 → (x rest : Read ℕ) → told text w ≡ x → told text w ≡ farthest (bad (drop far text)) (farthest x rest)
-      by (Word v p) t x rest e = rw (← e)
-      by (Bad p) t x rest e = absurd (omega arith)
+      by : (w : Took) → Goes w → (x rest : Read ℕ) → told text w ≡ x → told text w ≡ farthest (bad (drop far text)) (farthest x rest)
+      by (Ok w) t x rest e = rw (← e)
+      by (Err s) t x rest e = absurd t
 
   pub names_end : length us ≤ k → far ≤ length text → at ≤ far
       → farthest (bad (drop far text)) (names_from (drop k us) k (drop at text)) ≡ what → Reads text (Bad far) 4294967295 what

@@ -10,15 +10,12 @@ use native.Mathlib.Omega.{arith}
 use borrow.Rule.Slice.PartMut.{put_mid}
 use lib.ListN.{length, set, take, drop, replicate, length-append, length-replicate, length-take, length-drop}
 use lib.Seq.{sets}
-use denote.Enum.Declared.{tag_of}
 use Rattle.sheet.specs.Sheet.{word_key}
 use Rattle.sheet.specs.Reader.{Read, got, bad, and_then, fixed_from, number_from, most_word, words_from}
 use Rattle.sheet.proofs.Writing.{sets_append, part_written}
-use Rattle.sheet_read.specs.declared.Took.{Took}
-use Rattle.sheet_read.specs.declared.Took.TheVariants.{Word, Bad}
-use Rattle.sheet_read.specs.contracts.Took.{the_type}
-use Rattle.sheet_read.specs.Told.{place_of, Reads, Stores, line_from}
-use Rattle.sheet_read.proofs.Bytes.{no_more}
+use Rattle.sheet_read.specs.Told.{place_of, Reads, Stores, line_from, Took, Word}
+use Rattle.std.specs.Prelude.{Ok, Err}
+use Rattle.sheet_read.proofs.Bytes.{Stops, no_more}
 
 -- a part of a list that was filled with zeros
 pub cleared : (l : List ℕ) (from k : ℕ) {ys : List ℕ} → ys ≡ replicate (length (take k (drop from l))) 0 → from + k ≤ length l → put_mid from k l ys ≡ sets l from (replicate k 0)
@@ -80,15 +77,15 @@ module _ {l : List ℕ} {i many : ℕ} {after : List ℕ} {rest what : Read (Lis
   }
 
 -- a part that stops
-pub unfilled : (text l : List ℕ) (i many : ℕ) (after : List ℕ) (w : Took) {what : Read (List ℕ)} → tag_of the_type w ≡ 1 → place_of w ≤ length text
+pub unfilled : (text l : List ℕ) (i many : ℕ) (after : List ℕ) (w : Took) {what : Read (List ℕ)} → Stops w → place_of w ≤ length text
     → bad (drop (place_of w) text) ≡ what → Stores text l i many after what w
-unfilled text l i many after (Word v p) t h e = absurd (omega arith)
-unfilled text l i many after (Bad p) t h e = record { is = e; inside = h }
+unfilled text l i many after (Ok x) t h e = absurd t
+unfilled text l i many after (Err s) t h e = record { is = e; inside = h }
 
-pub where_stopped : {text l : List ℕ} {i many : ℕ} {after : List ℕ} {what : Read (List ℕ)} (w : Took) → tag_of the_type w ≡ 1 → Stores text l i many after what w
+pub where_stopped : {text l : List ℕ} {i many : ℕ} {after : List ℕ} {what : Read (List ℕ)} (w : Took) → Stops w → Stores text l i many after what w
     → bad (drop (place_of w) text) ≡ what
-where_stopped (Word v p) t f = absurd (omega arith)
-where_stopped (Bad p) t f = f.is
+where_stopped (Ok x) t f = absurd t
+where_stopped (Err s) t f = f.is
 
 -- ---- word lines
 
@@ -123,7 +120,7 @@ module _ (text : List ℕ) (p : ℕ) {l : List ℕ} {to count i : ℕ} {after : 
       → Going l to (i + 1) (set after (to + i) v) (words_from (i + 1 + 1) (count - (i + 1)) (drop q text)) what
   words_on {w} {v} {q} h r e = going_on g (v ∷ []) (words_from (i + 1 + 1) (count - (i + 1)) (drop q text)) (line_next h ∙ rw (← r.is, e)) refl refl
 
-  pub words_stop : {w : Took} {most : ℕ} → i < count → Reads text w most (line_from (i + 1) (drop p text)) → tag_of the_type w ≡ 1 → Stores text l to count after what w
+  pub words_stop : {w : Took} {most : ℕ} → i < count → Reads text w most (line_from (i + 1) (drop p text)) → Stops w → Stores text l to count after what w
   words_stop {w} h r t = unfilled text l to count after w t r.inside (going_stops g (line_next h ∙ rw (← r.is) (no_more text w _ t)))
 
   pub words_end : {v : ℕ} → count ≤ i → i ≤ count → p ≤ length text → Stores text l to count after what (Word v p)

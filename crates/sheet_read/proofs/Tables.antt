@@ -9,18 +9,15 @@ use mathlib.Core.List.{List, [], ◌∷◌, ◌++◌}
 use mathlib.Core.Path.{◌≡◌, refl, sym, ap, ◌∙◌}
 use native.Mathlib.Omega.{arith}
 use native.Mathlib.Numerals.{add-one}
-use denote.Enum.Declared.{tag_of}
 use lib.ListN.{length, set, drop, replicate, length-append, length-replicate, drop_of_length-le}
 use lib.Seq.{sets}
 use Rattle.table.specs.Rows.{used_words, at_most_five}
 use Rattle.sheet.specs.Sheet.{decimal, line_of, rows_key, row_key, kind_key}
 use Rattle.sheet.specs.Reader.{Read, got, bad, and_then, fixed_from, number_from, kind_from, words_from, row_from, rows_from, table_from, whole, read_sheet}
 use Rattle.sheet.proofs.Writing.{sets_append}
-use Rattle.sheet_read.specs.declared.Took.{Took}
-use Rattle.sheet_read.specs.declared.Took.TheVariants.{Word, Bad}
-use Rattle.sheet_read.specs.contracts.Took.{the_type}
-use Rattle.sheet_read.specs.Told.{worth, Reads, Filled, Stores}
-use Rattle.sheet_read.proofs.Bytes.{next, no_more}
+use Rattle.sheet_read.specs.Told.{worth, Reads, Filled, Stores, Took, Word, Bad}
+use Rattle.std.specs.Prelude.{Ok, Err}
+use Rattle.sheet_read.proofs.Bytes.{Goes, Stops, next, no_more}
 use Rattle.sheet_read.proofs.Storing.{behind, then_behind, Going, going_begin, going_on, going_stops, going_ends, unfilled, where_stopped}
 
 -- ---- a row
@@ -34,13 +31,13 @@ row_of kind ws = kind ∷ (ws ++ replicate (5 - used_words kind) 0)
 
 -- A part that stops, and where the words are not told yet.
 module _ (text : List ℕ) (at r : ℕ) (l : List ℕ) (to : ℕ) (after : List ℕ) where
-  pub row_no_start : {s : Took} {m : ℕ} → Reads text s m (fixed_from (start_of r) r (drop at text)) → tag_of the_type s ≡ 1
+  pub row_no_start : {s : Took} {m : ℕ} → Reads text s m (fixed_from (start_of r) r (drop at text)) → Stops s
       → Stores text l to 6 after (row_from r (drop at text)) s
   unfolding row_from
   row_no_start {s} a t = unfilled text l to 6 after s t a.inside (sym (rw (← a.is) (no_more text s _ t)))
 
   module _ {s : Took} {u p m : ℕ} (a : Reads text s m (fixed_from (start_of r) r (drop at text))) (e : s ≡ Word u p) where
-    pub row_no_kind : {k : Took} {n : ℕ} → Reads text k n (kind_from (drop p text)) → tag_of the_type k ≡ 1 → Stores text l to 6 after (row_from r (drop at text)) k
+    pub row_no_kind : {k : Took} {n : ℕ} → Reads text k n (kind_from (drop p text)) → Stops k → Stores text l to 6 after (row_from r (drop at text)) k
     unfolding row_from
     row_no_kind {k} b t = unfilled text l to 6 after k t b.inside (sym (rw (← a.is, e, ← b.is) (no_more text k _ t)))
 
@@ -49,15 +46,15 @@ module _ (text : List ℕ) (at r : ℕ) (l : List ℕ) (to : ℕ) (after : List 
       unfolding row_from
       row_words_lem = rw (← a.is, e, ← b.is, f, g)
 
-      pub row_no_words : {w : Took} {l₁ l₂ : List ℕ} {i : ℕ} → Stores text l₁ i used l₂ (words_from 1 used (drop q text)) w → tag_of the_type w ≡ 1
+      pub row_no_words : {w : Took} {l₁ l₂ : List ℕ} {i : ℕ} → Stores text l₁ i used l₂ (words_from 1 used (drop q text)) w → Stops w
           → Stores text l to 6 after (row_from r (drop at text)) w
       row_no_words {w} d t =
           unfilled text l to 6 after w t d.inside (sym (row_words_lem ∙ rw (← (where_stopped w t d))))
 
-      pub row_read : (w : Took) {l₂ : List ℕ} → Stores text (set l to kind) (to + 1) used l₂ (words_from 1 used (drop q text)) w → tag_of the_type w ≡ 0
+      pub row_read : (w : Took) {l₂ : List ℕ} → Stores text (set l to kind) (to + 1) used l₂ (words_from 1 used (drop q text)) w → Goes w
           → after ≡ sets l₂ (to + 1 + used) (replicate (to + 6 - (to + 1 + used)) 0) → Stores text l to 6 after (row_from r (drop at text)) w
-      row_read (Bad x) d t h = absurd (omega arith)
-      row_read (Word v x) {l₂} d t h =
+      row_read (Err x) d t h = absurd t
+      row_read (Ok x) {l₂} d t h =
           let ws = d.is.words in let c = d.is.count in let five = at_most_five kind in
           let zeros : List ℕ = replicate (5 - used_words kind) 0 in
           let n : to + 6 - (to + 1 + used) ≡ 5 - used_words kind = omega arith in
@@ -97,7 +94,7 @@ module _ (text : List ℕ) (p : ℕ) {l : List ℕ} {count r : ℕ} {after : Lis
       rw y (going_on g f.words (rows_from (r + 1) (count - (r + 1)) (drop q text))
       (rw (z, add-one r) (rows_by_row r (count - suc r) (drop p text) f.words (drop q text) f.is)) (rw x f.stored) f.count)
 
-  pub rows_stop : {w : Took} {later : List ℕ} {many : ℕ} → r < count → Stores text after (6 * r) 6 later (row_from r (drop p text)) w → tag_of the_type w ≡ 1
+  pub rows_stop : {w : Took} {later : List ℕ} {many : ℕ} → r < count → Stores text after (6 * r) 6 later (row_from r (drop p text)) w → Stops w
       → Stores text l 0 many later what w
   rows_stop {w} {later} {many} h d t = let z : count - r ≡ suc (count - (r + 1)) = omega arith in
       unfilled text l 0 many later w t d.inside (going_stops g (rw z (rows_by_none r (count - (r + 1)) (drop p text) (where_stopped w t d))))
@@ -106,9 +103,9 @@ module _ (text : List ℕ) (p : ℕ) {l : List ℕ} {count r : ℕ} {after : Lis
   rows_end h b q = let z : count - r ≡ 0 = omega arith in going_ends g (rw z (no_rows r (drop p text))) (omega arith) q
 
 -- a part that stops stands for no number
-pub nothing : (w : Took) → tag_of the_type w ≡ 1 → worth w ≤ 512
-nothing (Word v p) t = absurd (omega arith)
-nothing (Bad p) t = omega arith
+pub nothing : (w : Took) → Stops w → worth w ≤ 512
+nothing (Ok x) t = absurd t
+nothing (Err s) t = omega arith
 
 pub bounded : {w : Took} {n p : ℕ} → worth w ≤ 512 → w ≡ Word n p → n ≤ 512
 bounded h e = rw e at h
@@ -116,12 +113,12 @@ bounded h e = rw e at h
 -- ---- the table
 
 module _ (text l after : List ℕ) where
-  pub table_no_key : {k : Took} {m n : ℕ} → Reads text k m (fixed_from rows_key 0 text) → tag_of the_type k ≡ 1 → Stores text l 0 n after (table_from text) k × (worth k ≤ 512)
+  pub table_no_key : {k : Took} {m n : ℕ} → Reads text k m (fixed_from rows_key 0 text) → Stops k → Stores text l 0 n after (table_from text) k × (worth k ≤ 512)
   unfolding table_from
   table_no_key {k} {m} {n} a t = (unfilled text l 0 n after k t a.inside (sym (rw (← a.is) (no_more text k _ t))), nothing k t)
 
   module _ {k : Took} {u p m : ℕ} (a : Reads text k m (fixed_from rows_key 0 text)) (e : k ≡ Word u p) where
-    pub table_no_number : {n : Took} {most many : ℕ} → Reads text n most (number_from 1 512 (drop p text)) → tag_of the_type n ≡ 1
+    pub table_no_number : {n : Took} {most many : ℕ} → Reads text n most (number_from 1 512 (drop p text)) → Stops n
         → Stores text l 0 many after (table_from text) n × (worth n ≤ 512)
     unfolding table_from
     table_no_number {n} {most} {many} b t = (unfilled text l 0 many after n t b.inside (sym (rw (← a.is, e, ← b.is) (no_more text n _ t))), nothing n t)
@@ -133,7 +130,7 @@ module _ (text l after : List ℕ) where
 
   -- ---- the whole text
 
-  pub whole_stop : {w : Took} {many : ℕ} → Stores text l 0 many after (table_from text) w → tag_of the_type w ≡ 1 → Stores text l 0 many after (read_sheet text) w
+  pub whole_stop : {w : Took} {many : ℕ} → Stores text l 0 many after (table_from text) w → Stops w → Stores text l 0 many after (read_sheet text) w
   unfolding read_sheet
   whole_stop {w} {many} d t = unfilled text l 0 many after w t d.inside (rw (← (where_stopped w t d)))
 

@@ -1,5 +1,6 @@
 -- WHAT THE READERS OF THE PARTS ANSWER, by places in the text, beside what Reader.antt says of the text from there on.
 --
+--   Took, Word, Bad         what a reader of a part answers
 --   told, place_of, worth    a value and the place behind it, or the place where the text cannot go on
 --   Reads                   a part that stands for a number
 --   Filled, Stores          a part that stands for words, which are stored one behind the other
@@ -13,20 +14,30 @@ use Rattle.sheet.specs.Reader.{Read, got, bad, and_then, fixed_from, number_from
 use Rattle.sheet.specs.Sheet.{word_key}
 use Rattle.sheet_read.specs.declared.Unread.{Unread}
 use Rattle.sheet_read.specs.declared.Unread.TheVariants.{Text, Room}
-use Rattle.sheet_read.specs.declared.Took.{Took}
-use Rattle.sheet_read.specs.declared.Took.TheVariants.{Word, Bad}
+use Rattle.sheet_read.specs.declared.Part.{Part}
+use Rattle.sheet_read.specs.declared.Stuck.{Stuck}
+
+-- what a reader of a part answers: a value and the place behind its text, or the first place at which the text cannot go on
+abbrev pub Took : Type 0
+Took = Result Part Stuck
+
+abbrev pub Word : ℕ → ℕ → Took
+Word v p = Ok (record { value = v; behind = p })
+
+abbrev pub Bad : ℕ → Took
+Bad p = Err (record { at = p })
 
 abbrev pub told : List ℕ → Took → Read ℕ
-told text (Word v p) = got v (drop p text)
-told text (Bad p) = bad (drop p text)
+told text (Ok x) = got x.value (drop x.behind text)
+told text (Err s) = bad (drop s.at text)
 
 abbrev pub place_of : Took → ℕ
-place_of (Word v p) = p
-place_of (Bad p) = p
+place_of (Ok x) = x.behind
+place_of (Err s) = s.at
 
 abbrev pub worth : Took → ℕ
-worth (Word v p) = v
-worth (Bad p) = 0
+worth (Ok x) = x.value
+worth (Err s) = 0
 
 pub record Reads (text : List ℕ) (took : Took) (most : ℕ) (what : Read ℕ) : Type 0 where
   pub is : told text took ≡ what
@@ -42,8 +53,8 @@ pub record Filled (text before : List ℕ) (i many : ℕ) (after : List ℕ) (wh
 
 -- where the text cannot go on, nothing is said of the lent words
 abbrev pub Filling : List ℕ → List ℕ → ℕ → ℕ → List ℕ → Read (List ℕ) → Took → Type 0
-Filling text before i many after what (Word v p) = Filled text before i many after what p
-Filling text before i many after what (Bad p) = bad (drop p text) ≡ what
+Filling text before i many after what (Ok x) = Filled text before i many after what x.behind
+Filling text before i many after what (Err s) = bad (drop s.at text) ≡ what
 
 pub record Stores (text before : List ℕ) (i many : ℕ) (after : List ℕ) (what : Read (List ℕ)) (took : Took) : Type 0 where
   pub is : Filling text before i many after what took

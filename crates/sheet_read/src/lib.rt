@@ -51,11 +51,17 @@ const MOST_WORD: u32 = 4294967295;
 // The byte of the digit 0.
 const ZERO: u32 = 48;
 
-// A value and the place behind its text, or the first place at which the text cannot go on.
+// What a part of the text stands for, and the place behind it.
 #[derive(Clone, Copy)]
-enum Took {
-    Word(u32, usize),
-    Bad(usize),
+struct Part {
+    value: u32,
+    behind: usize,
+}
+
+// The first place at which the text cannot go on.
+#[derive(Clone, Copy)]
+struct Stuck {
+    at: usize,
 }
 
 fn wide(b: u8) -> u32
@@ -65,23 +71,24 @@ fn wide(b: u8) -> u32
 }
 
 // The bytes of `key`, which stand for v.
-fn fixed(text: &[u8], at: usize, key: &[u8], v: u32) -> Took
+fn fixed(text: &[u8], at: usize, key: &[u8], v: u32) -> Result<Part, Stuck>
     requires { at ≤ length text.now }
     ensures { Reads text.now result v (fixed_from key.now v (drop at text.now)) }
 {
-    let mut i: usize = 0;
     let mut p = at;
-    while i < key.len() {
+    for due in key {
         if text.len() <= p {
-            return Took::Bad(p);
+            return Err(Stuck { at: p });
         }
-        if text[p] != key[i] {
-            return Took::Bad(p);
+        if text[p] != *due {
+            return Err(Stuck { at: p });
         }
-        i += 1;
         p += 1;
     }
-    Took::Word(v, p)
+    Ok(Part {
+        value: v,
+        behind: p,
+    })
 }
 
 // Whether b is a digit that may stand behind the digits of v. The number with it is not made before it is known to be a word.
@@ -101,22 +108,19 @@ fn goes_on(b: u32, v: u32, most: u32) -> bool
 }
 
 // The digits behind the first, whose value is not 0, and the line's end.
-fn digits(text: &[u8], at: usize, first: u32, most: u32) -> Took
+fn digits(text: &[u8], at: usize, first: u32, most: u32) -> Result<Part, Stuck>
     requires { (at ≤ length text.now) × (first ≤ most) }
     ensures { Reads text.now result most (digits_from most first (drop at text.now)) }
 {
     let mut v = first;
-    let mut p = at;
-    while p < text.len() {
+    for p in at..text.len() {
         let b = wide(text[p]);
-        if goes_on(b, v, most) {
-            v = 10 * v + (b - 48);
-            p += 1;
-        } else {
+        if !goes_on(b, v, most) {
             return fixed(text, p, b"\n", v);
         }
+        v = 10 * v + (b - 48);
     }
-    Took::Bad(p)
+    Err(Stuck { at: text.len() })
 }
 
 // Whether a number from `least` to `most` can begin with b.
@@ -136,12 +140,12 @@ fn begins(b: u32, least: u32, most: u32) -> bool
 }
 
 // A number and the line's end. Behind a 0 there is no digit.
-fn number(text: &[u8], at: usize, least: u32, most: u32) -> Took
+fn number(text: &[u8], at: usize, least: u32, most: u32) -> Result<Part, Stuck>
     requires { at ≤ length text.now }
     ensures { Reads text.now result most (number_from least most (drop at text.now)) }
 {
     if text.len() <= at {
-        return Took::Bad(at);
+        return Err(Stuck { at });
     }
     let b = wide(text[at]);
     let next = at + 1;
@@ -151,11 +155,11 @@ fn number(text: &[u8], at: usize, least: u32, most: u32) -> Took
         }
         return digits(text, next, b - 48, most);
     }
-    Took::Bad(at)
+    Err(Stuck { at })
 }
 
 // The name of this kind and the line's end. Sixteen bytes are enough for every name.
-fn named(text: &[u8], at: usize, kind: u32) -> Took
+fn named(text: &[u8], at: usize, kind: u32) -> Result<Part, Stuck>
     requires { at ≤ length text.now }
     ensures { Reads text.now result kind (fixed_from (name_of kind ++ feed) kind (drop at text.now)) }
 {
@@ -171,57 +175,49 @@ fn farther(p: usize, q: usize) -> usize
 }
 
 // The name of a kind. Where there is none, the text can go on as far as the name that goes farthest.
-fn kind_at(text: &[u8], at: usize) -> Took
+fn kind_at(text: &[u8], at: usize) -> Result<Part, Stuck>
     requires { at ≤ length text.now }
     ensures { Reads text.now result 4294967295 (kind_from (drop at text.now)) }
 {
     let mut far = at;
-    let mut k: u32 = 0;
-    while k < table::KINDS {
-        let w = named(text, at, k);
-        let Took::Bad(p) = w else {
-            return w;
-        };
-        far = farther(far, p);
-        k += 1;
+    for kind in 0..table::KINDS {
+        match named(text, at, kind) {
+            Ok(part) => return Ok(part),
+            Err(stuck) => far = farther(far, stuck.at),
+        }
     }
-    Took::Bad(far)
+    Err(Stuck { at: far })
 }
 
 // The line of word k.
-fn line(text: &[u8], at: usize, k: u32) -> Took
+fn line(text: &[u8], at: usize, k: u32) -> Result<Part, Stuck>
     requires { (at ≤ length text.now) × (k ≤ 5) }
     ensures { Reads text.now result 4294967295 (line_from k (drop at text.now)) }
 {
     let key = [(96 + k) as u8, b'='];
-    let w = fixed(text, at, &key, k);
-    let Took::Word(_, p) = w else {
-        return w;
-    };
-    number(text, p, 0, MOST_WORD)
+    let start = fixed(text, at, &key, k)?;
+    number(text, start.behind, 0, MOST_WORD)
 }
 
 // So many word lines, stored from `to` on.
-fn words(text: &[u8], at: usize, count: u32, out: &mut [u32], to: usize) -> Took
+fn words(text: &[u8], at: usize, count: u32, out: &mut [u32], to: usize) -> Result<Part, Stuck>
     requires { (at ≤ length text.now) × (count ≤ 5) × (to + count ≤ length out.old) }
     ensures { Stores text.now out.old to count out.new (words_from 1 count (drop at text.now)) result }
 {
     let mut p = at;
-    let mut i: u32 = 0;
-    while i < count {
-        let w = line(text, p, i + 1);
-        let Took::Word(v, q) = w else {
-            return w;
-        };
-        out[to + i as usize] = v;
-        p = q;
-        i += 1;
+    for i in 0..count {
+        let word = line(text, p, i + 1)?;
+        out[to + i as usize] = word.value;
+        p = word.behind;
     }
-    Took::Word(count, p)
+    Ok(Part {
+        value: count,
+        behind: p,
+    })
 }
 
 // The lines of row r up to its kind's name, which are at most twenty bytes.
-fn start(text: &[u8], at: usize, r: u32) -> Took
+fn start(text: &[u8], at: usize, r: u32) -> Result<Part, Stuck>
     requires { at ≤ length text.now }
     ensures { Reads text.now result r (fixed_from (line_of row_key (decimal r) ++ kind_key) r (drop at text.now)) }
 {
@@ -231,75 +227,54 @@ fn start(text: &[u8], at: usize, r: u32) -> Took
 }
 
 // Row r, stored from `to` on.
-fn row(text: &[u8], at: usize, r: u32, out: &mut [u32], to: usize) -> Took
+fn row(text: &[u8], at: usize, r: u32, out: &mut [u32], to: usize) -> Result<Part, Stuck>
     requires { (at ≤ length text.now) × (to + 6 ≤ length out.old) }
     ensures { Stores text.now out.old to 6 out.new (row_from r (drop at text.now)) result }
 {
-    let s = start(text, at, r);
-    let Took::Word(_, p) = s else {
-        return s;
-    };
-    let k = kind_at(text, p);
-    let Took::Word(kind, q) = k else {
-        return k;
-    };
-    let used = table::used_words(kind);
-    out[to] = kind;
-    let w = words(text, q, used, out, to + 1);
-    let Took::Word(_, _) = w else {
-        return w;
-    };
+    let first = start(text, at, r)?;
+    let kind = kind_at(text, first.behind)?;
+    let used = table::used_words(kind.value);
+    out[to] = kind.value;
+    let last = words(text, kind.behind, used, out, to + 1)?;
     out[to + 1 + used as usize..to + 6].fill(0);
-    w
+    Ok(last)
 }
 
 // So many rows.
-fn rows(text: &[u8], at: usize, count: u32, out: &mut [u32]) -> Took
+fn rows(text: &[u8], at: usize, count: u32, out: &mut [u32]) -> Result<Part, Stuck>
     requires { (at ≤ length text.now) × (count ≤ 512) × (6 * count ≤ length out.old) }
     ensures { Stores text.now out.old 0 (6 * worth result) out.new (rows_from 0 count (drop at text.now)) result × (worth result ≤ 512) }
 {
     let mut p = at;
-    let mut r: u32 = 0;
-    while r < count {
-        let w = row(text, p, r, out, (6 * r) as usize);
-        let Took::Word(_, q) = w else {
-            return w;
-        };
-        p = q;
-        r += 1;
+    for r in 0..count {
+        p = row(text, p, r, out, (6 * r) as usize)?.behind;
     }
-    Took::Word(count, p)
+    Ok(Part {
+        value: count,
+        behind: p,
+    })
 }
 
 // The row count and the rows, whatever stands behind them.
-fn counted_rows(text: &[u8], out: &mut [u32]) -> Took
+fn counted_rows(text: &[u8], out: &mut [u32]) -> Result<Part, Stuck>
     requires { 3072 ≤ length out.old }
     ensures { Stores text.now out.old 0 (6 * worth result) out.new (table_from text.now) result × (worth result ≤ 512) }
 {
-    let k = fixed(text, 0, b"rows=", 0);
-    let Took::Word(_, p) = k else {
-        return k;
-    };
-    let n = number(text, p, 1, MOST_ROWS);
-    let Took::Word(count, q) = n else {
-        return n;
-    };
-    rows(text, q, count, out)
+    let start = fixed(text, 0, b"rows=", 0)?;
+    let count = number(text, start.behind, 1, MOST_ROWS)?;
+    rows(text, count.behind, count.value, out)
 }
 
 // The same, with nothing behind them.
-fn whole(text: &[u8], out: &mut [u32]) -> Took
+fn whole(text: &[u8], out: &mut [u32]) -> Result<Part, Stuck>
     requires { 3072 ≤ length out.old }
     ensures { Stores text.now out.old 0 (6 * worth result) out.new (read_sheet text.now) result × (worth result ≤ 512) }
 {
-    let w = counted_rows(text, out);
-    let Took::Word(_, p) = w else {
-        return w;
-    };
-    if p < text.len() {
-        return Took::Bad(p);
+    let all = counted_rows(text, out)?;
+    if all.behind < text.len() {
+        return Err(Stuck { at: all.behind });
     }
-    w
+    Ok(all)
 }
 
 // The words are read apart first, so that a refusal leaves every lent word. How many words the table has is answered.
@@ -308,11 +283,11 @@ pub fn read_sheet(text: &[u8], rows: &mut [u32]) -> Result<usize, Unread>
 {
     let mut read = [0u32; 3072];
     match whole(text, &mut read) {
-        Took::Bad(p) => Err(Unread::Text(p)),
-        Took::Word(n, _) => {
-            let many = 6 * n as usize;
+        Err(stuck) => Err(Unread::Text(stuck.at)),
+        Ok(all) => {
+            let many = 6 * all.value as usize;
             if rows.len() < many {
-                return Err(Unread::Room(n));
+                return Err(Unread::Room(all.value));
             }
             rows[..many].copy_from_slice(&read[..many]);
             Ok(many)

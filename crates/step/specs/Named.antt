@@ -1,4 +1,4 @@
--- How the code names a kind: `named` reads the code's kinds, `Decodes` says which number has which.
+-- How the code names a kind: `named` reads the code's kinds, `number_of` numbers them, `Decodes` says which number has which.
 -- Assumes nothing.
 use Rattle.std.specs.Prelude.{◌≡◌, ℕ, Result, Ok, Err}
 use Rattle.std.proofs.Math.Option.{Option, none, some}
@@ -17,6 +17,18 @@ named Fork = FORK
 named Drain = DRAIN
 named Op = OP
 named Pick = PICK
+
+-- the number that stands for a kind
+abbrev pub number_of : Code → ℕ
+number_of Stream = 0
+number_of Gate = 1
+number_of Carry = 2
+number_of Invariant = 3
+number_of Split = 4
+number_of Fork = 5
+number_of Drain = 6
+number_of Op = 7
+number_of Pick = 8
 
 -- a kind that was read, or none
 abbrev pub read_kind : Result Code UnknownKind → Option Kind

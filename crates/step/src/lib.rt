@@ -5,7 +5,7 @@ ghost use Rattle.std.specs.Prelude.{◌≡◌, ℕ};
 ghost use Rattle.std.proofs.Math.Option.{some};
 ghost use Rattle.step.specs.Kinds.{STREAM, GATE, CARRY, INVARIANT, SPLIT, FORK, DRAIN, OP, PICK, Input};
 ghost use Rattle.step.specs.Machines.{program, step_of, in_phase, holding};
-ghost use Rattle.step.specs.Named.{Decodes};
+ghost use Rattle.step.specs.Named.{number_of, Decodes};
 ghost use Rattle.step.specs.Shown.{given, view_of, effect_of, shown, words_seen, words_in, decided, decided_of, effect, ready, unless};
 
 use std::error::Error;
@@ -23,6 +23,15 @@ pub enum Kind {
     Drain,
     Op,
     Pick,
+}
+
+impl Kind {
+    // The number that stands for it in a row.
+    pub fn number(self) -> u32
+        ensures { result ≡ number_of self }
+    {
+        self as u32
+    }
 }
 
 // A number that is no kind's.

@@ -1,6 +1,6 @@
 -- The laws that the proofs of the functions cite.
 pub mod Different
-pub mod Loops
+pub mod Opened
 pub mod Words
 pub mod Visible
 pub mod Noting

@@ -24,8 +24,8 @@ use Rattle.table.specs.declared.Kind.TheVariants.{For}
 use Rattle.table.specs.declared.Innermost.{Innermost}
 use Rattle.table.specs.declared.Notes.{Notes}
 use Rattle.table.specs.declared.Place.{Place}
-use Rattle.table.specs.declared.OpenLoops.{OpenLoops}
-use Rattle.table.proofs.Loops.{open_length, open_outside, counted_at}
+use Rattle.table.specs.declared.loops.OpenLoops.{OpenLoops}
+use Rattle.table.proofs.Opened.{open_length, open_outside, counted_at}
 
 pub size_is : (t : List ℕ) (n : ℕ) → length t ≡ 6 * n → n ≡ size t
 size_is t n e = omega arith
@@ -40,15 +40,14 @@ noted l i x g f h e all k less =
 
 pub noted_more : (t : List ℕ) (i : ℕ) {notes : Notes} (kind : Kind) {h b : ℕ} (next : OpenLoops) → Noted t i notes → i < notes.size → kind_number kind ≡ kind_at t i
     → h ≡ home_by notes.size (kind_number kind) i (loops_of notes.loops) → b ≡ inner notes.size (loops_of notes.loops)
-    → loops_of next ≡ after (kind_number kind) i (loops_of notes.loops) → next.depth ≤ 8
+    → loops_of next ≡ after (kind_number kind) i (loops_of notes.loops)
     → Noted t (i + 1) (record { size = notes.size; before = kind; places = set notes.places i (record { home = h; body = b }); loops = next })
 unfolding home body_of stack_at
-noted_more t i {notes} kind {h} {b} next N l ek eh eb ea ed = let z : notes.size ≡ size t = size_is t notes.size N.whole in
+noted_more t i {notes} kind {h} {b} next N l ek eh eb ea = let z : notes.size ≡ size t = size_is t notes.size N.whole in
     record {
       whole = N.whole;
       rows = N.rows;
       below = omega arith;
-      deep = ed;
       long = length-set notes.places i (record { home = h; body = b }) ∙ N.long;
       loops = rw (add-one i, ← ek, ← N.loops) ea;
       before = rw (add-one i) ek;

@@ -10,8 +10,8 @@ use Rattle.table.specs.Telling.{broken_number, broken_detail}
 use Rattle.table.specs.declared.Kind.{Kind}
 use Rattle.table.specs.declared.Broken.{Broken}
 use Rattle.table.specs.Kinds.{kind_number}
-use Rattle.table.specs.declared.OpenLoop.{OpenLoop}
-use Rattle.table.specs.declared.OpenLoops.{OpenLoops}
+use Rattle.table.specs.declared.loops.OpenLoop.{OpenLoop}
+use Rattle.table.specs.declared.loops.OpenLoops.{OpenLoops}
 use Rattle.table.specs.declared.Place.{Place}
 use Rattle.table.specs.declared.Notes.{Notes}
 
@@ -46,7 +46,6 @@ pub record Noted (t : List ℕ) (r : ℕ) (notes : Notes) : Type 0 where
   pub whole : length t ≡ 6 * notes.size
   pub rows : notes.size ≤ 512
   pub below : r ≤ notes.size
-  pub deep : notes.loops.depth ≤ 8
   pub long : length notes.places ≡ 512
   pub loops : loops_of notes.loops ≡ stack_at t r
   pub before : kind_number notes.before ≡ kind_before t r

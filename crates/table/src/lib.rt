@@ -15,6 +15,9 @@ ghost use Rattle.table.specs.Clauses.{spare_word, code_word, follows_fault, args
 ghost use Rattle.table.specs.Telling.{FirstWord, sort_number, placed, seen, hidden_by, broken_number, broken_detail, Answers, told_number, told_row, told_detail, told_fault, told_word, told_body, told_args, told_nexts};
 ghost use Rattle.table.specs.Kept.{loop_of, loops_of, Counted, Noted, Checks};
 
+mod loops;
+
+use loops::OpenLoops;
 use refusal::{Refusal, Refused};
 use std::error::Error;
 use std::fmt;
@@ -24,9 +27,6 @@ pub const KINDS: u32 = 9;
 
 // How many rows a table may have.
 const MOST_ROWS: usize = 512;
-
-// How many loops may be open at once.
-const MOST_LOOPS: usize = 8;
 
 // The first operator that compares and so gives a flag.
 const COMPARISONS: u32 = 3;
@@ -460,102 +460,6 @@ impl From<Clause> for Refused {
     }
 }
 
-// An open loop: its FOR row, and its ARGs and NEXTs so far.
-#[derive(Clone, Copy)]
-struct OpenLoop {
-    row: u32,
-    args: u32,
-    nexts: u32,
-}
-
-// The open loops, the innermost last.
-#[derive(Clone, Copy)]
-struct OpenLoops {
-    entries: [OpenLoop; 8],
-    depth: usize,
-}
-
-impl OpenLoops {
-    fn innermost(self) -> Option<OpenLoop>
-        requires { self.depth ≤ 8 }
-        ensures { MatchOption result (loops_of self ≡ []) (λ last. (loops_of self ≡ loop_of last ∷ outward (loops_of self)) × (1 ≤ self.depth)) }
-    {
-        if self.depth == 0 {
-            return None;
-        }
-        Some(self.entries[self.depth - 1])
-    }
-
-    // Those around the innermost one.
-    fn outward(self) -> OpenLoops
-        requires { self.depth ≤ 8 }
-        ensures { (loops_of result ≡ outward (loops_of self)) × (result.depth ≡ self.depth - 1) }
-    {
-        let entries = self.entries;
-        OpenLoops {
-            entries,
-            depth: self.depth.saturating_sub(1),
-        }
-    }
-
-    // One loop more.
-    fn inward(self, last: OpenLoop) -> OpenLoops
-        requires { self.depth < 8 }
-        ensures { (loops_of result ≡ loop_of last ∷ loops_of self) × (result.depth ≤ 8) }
-    {
-        let mut entries = self.entries;
-        entries[self.depth] = last;
-        OpenLoops {
-            entries,
-            depth: self.depth + 1,
-        }
-    }
-
-    fn holds(self, row: u32) -> bool
-        requires { self.depth ≤ 8 }
-        ensures { result ≡ holds row (loops_of self) }
-    {
-        for k in 0..self.depth {
-            if self.entries[k].row == row {
-                return true;
-            }
-        }
-        false
-    }
-
-    // Behind row r, from those before it.
-    fn behind(self, kind: Kind, r: u32) -> OpenLoops
-        requires { (self.depth ≤ 8) × (kind ≡ For → self.depth < 8) × Counted 512 (loops_of self) }
-        ensures { (loops_of result ≡ after (kind_number kind) r (loops_of self)) × (result.depth ≤ 8) }
-    {
-        match kind {
-            Kind::For => self.inward(OpenLoop {
-                row: r,
-                args: 0,
-                nexts: 0,
-            }),
-            Kind::End => self.outward(),
-            Kind::Arg => match self.innermost() {
-                None => self,
-                Some(l) => self.outward().inward(OpenLoop {
-                    row: l.row,
-                    args: l.args + 1,
-                    nexts: l.nexts,
-                }),
-            },
-            Kind::Next => match self.innermost() {
-                None => self,
-                Some(l) => self.outward().inward(OpenLoop {
-                    row: l.row,
-                    args: l.args,
-                    nexts: l.nexts + 1,
-                }),
-            },
-            _ => self,
-        }
-    }
-}
-
 // What is noted of a row that was passed: the bodies in which its value is at home and in which it stands.
 #[derive(Clone, Copy)]
 struct Place {
@@ -578,25 +482,16 @@ impl Notes {
     fn new(size: u32) -> Notes
         ensures { (t : List ℕ) → length t ≡ 6 * size → size ≤ 512 → Noted t 0 result }
     {
-        let unopened = OpenLoop {
-            row: 0,
-            args: 0,
-            nexts: 0,
-        };
         Notes {
             size,
             before: Kind::Input,
             places: [Place { home: 0, body: 0 }; 512],
-            loops: OpenLoops {
-                entries: [unopened; 8],
-                depth: 0,
-            },
+            loops: OpenLoops::none(),
         }
     }
 
     // The innermost of these bodies.
     fn inner(&self, loops: OpenLoops) -> u32
-        requires { loops.depth ≤ 8 }
         ensures { result ≡ inner self.now.size (loops_of loops) }
     {
         match loops.innermost() {
@@ -606,7 +501,6 @@ impl Notes {
     }
 
     fn innermost(&self) -> Innermost
-        requires { self.now.loops.depth ≤ 8 }
         ensures { (result.body ≡ inner self.now.size (loops_of self.now.loops)) × (result.args ≡ args_in (loops_of self.now.loops)) × (result.nexts ≡ nexts_in (loops_of self.now.loops)) }
     {
         match self.loops.innermost() {
@@ -624,7 +518,6 @@ impl Notes {
     }
 
     fn body_open(&self, body: u32, loops: OpenLoops) -> bool
-        requires { loops.depth ≤ 8 }
         ensures { result ≡ body_open self.now.size body (loops_of loops) }
     {
         body == self.size || loops.holds(body)
@@ -632,7 +525,6 @@ impl Notes {
 
     // The body in which the value of row r, of this kind, is at home.
     fn home(&self, kind: Kind, r: u32) -> u32
-        requires { self.now.loops.depth ≤ 8 }
         ensures { result ≡ home_by self.now.size (kind_number kind) r (loops_of self.now.loops) }
     {
         match kind {
@@ -674,7 +566,6 @@ impl Notes {
 
     // What is wrong with it among the open loops.
     fn stands(&self, kind: Kind) -> Option<PlaceFault>
-        requires { self.now.loops.depth ≤ 8 }
         ensures { placed result ≡ stands_fault (kind_number kind) (loops_of self.now.loops) }
     {
         match kind {
@@ -697,7 +588,6 @@ impl Notes {
     }
 
     fn place(&self, kind: Kind) -> Option<PlaceFault>
-        requires { self.now.loops.depth ≤ 8 }
         ensures { (t : List ℕ) → (r : ℕ) → kind_number kind ≡ kind_at t r → kind_number self.now.before ≡ kind_before t r → loops_of self.now.loops ≡ stack_at t r → placed result ≡ place_fault t r }
     {
         match self.follows(kind) {
@@ -711,15 +601,14 @@ impl Notes {
         ensures { (t : List ℕ) → (r : ℕ) → kind_number kind ≡ kind_at t r → loops_of self.now.loops ≡ stack_at t r → result ≡ depth_right t r }
     {
         match kind {
-            Kind::For => self.loops.depth < MOST_LOOPS,
+            Kind::For => !self.loops.is_full(),
             _ => true,
         }
     }
 
     // The loops that are open where the operands of a row of this kind are read.
     fn read_loops(&self, kind: Kind) -> OpenLoops
-        requires { self.now.loops.depth ≤ 8 }
-        ensures { (loops_of result ≡ cond (eqb (kind_number kind) 5) (outward (loops_of self.now.loops)) (loops_of self.now.loops)) × (result.depth ≤ 8) }
+        ensures { loops_of result ≡ cond (eqb (kind_number kind) 5) (outward (loops_of self.now.loops)) (loops_of self.now.loops) }
     {
         match kind {
             Kind::Arg => self.loops.outward(),
@@ -798,7 +687,7 @@ impl Notes {
 
     // Row r, of this kind, was passed.
     fn note(&mut self, kind: Kind, r: u32)
-        requires { (r < 512) × (self.old.loops.depth ≤ 8) × (kind ≡ For → self.old.loops.depth < 8) × Counted 512 (loops_of self.old.loops) }
+        requires { (r < 512) × (kind ≡ For → self.old.loops.depth < 8) × Counted 512 (loops_of self.old.loops) }
         ensures { (t : List ℕ) → Noted t r self.old → r < self.old.size → kind_number kind ≡ kind_at t r → Noted t (r + 1) self.new × (self.new.size ≡ self.old.size) }
     {
         let home = self.home(kind, r);
@@ -810,7 +699,6 @@ impl Notes {
 
     // That no loop is open behind the last row, and that it is an OUT.
     fn check_end(&self) -> Result<(), Clause>
-        requires { self.now.loops.depth ≤ 8 }
         ensures { (t : List ℕ) → Noted t self.now.size self.now → (answer (told_number result) (told_row result) ≡ rows_from 0 t self.now.size) × (told_detail result ≡ explained t (told_number result) (told_row result)) }
     {
         if self.loops.depth > 0 {

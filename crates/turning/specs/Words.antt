@@ -1,5 +1,5 @@
 -- The words of the rows in lent words, and what a walk does to them.
--- Main names: `env_of`, `Long`, `Names`, `placed`, `copied`, `Copies`, `LoopAt`, `Ends`, and of the scan `body_after`, `note_at`, `note_of`.
+-- Main names: `env_of`, `Names`, `placed`, `copied`, `Copies`, `LoopAt`, `Ends`, and of the scan `body_after`, `note_at`, `note_of`.
 -- Assumes nothing.
 use Rattle.std.specs.Prelude.{ℕ, suc, ◌+◌, ◌-◌, ◌≤◌, ◌<◌, cond, List, ◌≡◌, eqb, ltb, get_or, length}
 use Rattle.table.specs.Rows.{kind_at, word, size, FOR, END}
@@ -10,10 +10,6 @@ use Rattle.reading.specs.Reading.{Env}
 -- the reading's words, from a list
 unfoldable pub env_of : List ℕ → Env
 env_of e r = get_or e r 0
-
--- a word for each row that a table can have
-abbrev pub Long : List ℕ → Type 0
-Long e = length e ≡ 512
 
 -- word k of row r is an operand: it names a row
 pub record Names (t : List ℕ) (r k : ℕ) : Type 0 where

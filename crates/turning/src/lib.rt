@@ -10,19 +10,9 @@ ghost use Rattle.table.specs.Scan.{body_of};
 ghost use Rattle.table.specs.Bodies.{end_of, first_of};
 ghost use Rattle.table.specs.Right.{TableRight};
 ghost use Rattle.reading.specs.Reading.{set_row, choose, first_words, results_from, turn, leave, named, next_named, arg_named};
-ghost use Rattle.turning.specs.Words.{env_of, Long, Names, placed, copied, Source, Aside, Copies, LoopAt, Ends, body_after, note_at, note_of, one_more};
+ghost use Rattle.turning.specs.Words.{env_of, Names, placed, copied, Source, Aside, Copies, LoopAt, Ends, body_after, note_at, note_of, one_more};
 
-const INPUT: u32 = 0;
-
-const CONST: u32 = 1;
-
-const FOR: u32 = 4;
-
-const ARG: u32 = 5;
-
-const END: u32 = 7;
-
-const OUT: u32 = 8;
+use table::Kind;
 
 // Words of rows.
 
@@ -35,16 +25,16 @@ pub fn word_of(words: &[u32], r: u32) -> u32
 }
 
 // The word that word k of row r names.
-pub fn named(table: &[u32], words: &[u32], r: u32, k: u32) -> u32
-    requires { TableRight table.now × Names table.now r k × Long words.now }
+pub fn named(table: &[u32], words: &[u32; 512], r: u32, k: u32) -> u32
+    requires { TableRight table.now × Names table.now r k }
     ensures { result ≡ env_of words.now (word table.now r k) }
 {
     word_of(words, table::word_at(table, r, k))
 }
 
 // Row r has this word from now on.
-pub fn set_row(words: &mut [u32], r: u32, word: u32)
-    requires { (r < 512) × Long words.old }
+pub fn set_row(words: &mut [u32; 512], r: u32, word: u32)
+    requires { r < 512 }
     ensures { env_of words.new ≡ set_row r word (env_of words.old) }
 {
     words[r as usize] = word;
@@ -52,8 +42,8 @@ pub fn set_row(words: &mut [u32], r: u32, word: u32)
 
 // The rows that compute.
 
-pub fn op_row(table: &[u32], words: &mut [u32], r: u32)
-    requires { TableRight table.now × (r < size table.now) × (kind_at table.now r ≡ 2) × Long words.old }
+pub fn op_row(table: &[u32], words: &mut [u32; 512], r: u32)
+    requires { TableRight table.now × (r < size table.now) × (kind_at table.now r ≡ 2) }
     ensures { env_of words.new ≡ set_row r (operate (word table.now r 1) (env_of words.old (word table.now r 2)) (env_of words.old (word table.now r 3))) (env_of words.old) }
 {
     let x = named(table, words, r, 2);
@@ -69,8 +59,8 @@ fn choose(flag: u32, x: u32, y: u32) -> u32
     if flag == 0 { y } else { x }
 }
 
-pub fn pick_row(table: &[u32], words: &mut [u32], r: u32)
-    requires { TableRight table.now × (r < size table.now) × (kind_at table.now r ≡ 3) × Long words.old }
+pub fn pick_row(table: &[u32], words: &mut [u32; 512], r: u32)
+    requires { TableRight table.now × (r < size table.now) × (kind_at table.now r ≡ 3) }
     ensures { env_of words.new ≡ set_row r (choose (env_of words.old (word table.now r 1)) (env_of words.old (word table.now r 2)) (env_of words.old (word table.now r 3))) (env_of words.old) }
 {
     let f = named(table, words, r, 1);
@@ -97,10 +87,8 @@ pub fn count_rows(table: &[u32], n: u32, kind: u32) -> u32
     ensures { result ≡ rows_of kind table.now n }
 {
     let mut count: u32 = 0;
-    let mut r: u32 = 0;
-    while r < n {
+    for r in 0..n {
         count = one_more(table::kind_at(table, r), kind, count);
-        r += 1;
     }
     count
 }
@@ -113,10 +101,10 @@ fn first_word(table: &[u32], inputs: &[u32], r: u32, before: u32) -> u32
     ensures { result ≡ first_words table.now inputs.now r }
 {
     let kind = table::kind_at(table, r);
-    if kind == INPUT {
+    if kind == Kind::Input as u32 {
         return word_of(inputs, before);
     }
-    if kind == CONST {
+    if kind == Kind::Const as u32 {
         return table::word_at(table, r, 1);
     }
     0
@@ -128,11 +116,9 @@ pub fn first_words(table: &[u32], n: u32, inputs: &[u32]) -> [u32; 512]
 {
     let mut words = [0u32; 512];
     let mut before: u32 = 0;
-    let mut r: u32 = 0;
-    while r < n {
+    for r in 0..n {
         words[r as usize] = first_word(table, inputs, r, before);
-        before = one_more(table::kind_at(table, r), INPUT, before);
-        r += 1;
+        before = one_more(table::kind_at(table, r), Kind::Input as u32, before);
     }
     words
 }
@@ -144,10 +130,10 @@ fn body_after(kind: u32, notes: &[u32; 512], r: u32, body: u32) -> u32
     requires { (kind ≡ 7 → body < 512) × (length notes.now ≡ 512) }
     ensures { result ≡ body_after kind notes.now r body }
 {
-    if kind == FOR {
+    if kind == Kind::For as u32 {
         return r;
     }
-    if kind == END {
+    if kind == Kind::End as u32 {
         return notes[body as usize];
     }
     body
@@ -156,13 +142,13 @@ fn body_after(kind: u32, notes: &[u32; 512], r: u32, body: u32) -> u32
 fn note_at(kind: u32, r: u32, body: u32) -> u32
     ensures { result ≡ note_at kind r body }
 {
-    if kind == END { body } else { r }
+    if kind == Kind::End as u32 { body } else { r }
 }
 
 fn note_of(kind: u32, r: u32, body: u32) -> u32
     ensures { result ≡ note_of kind r body }
 {
-    if kind == END { r } else { body }
+    if kind == Kind::End as u32 { r } else { body }
 }
 
 pub fn note_ends(table: &[u32], n: u32) -> [u32; 512]
@@ -171,24 +157,22 @@ pub fn note_ends(table: &[u32], n: u32) -> [u32; 512]
 {
     let mut notes = [0u32; 512];
     let mut body = n;
-    let mut r: u32 = 0;
-    while r < n {
+    for r in 0..n {
         let kind = table::kind_at(table, r);
         let next = body_after(kind, &notes, r, body);
         notes[note_at(kind, r, body) as usize] = note_of(kind, r, body);
         body = next;
-        r += 1;
     }
     notes
 }
 
-// The row behind the ARGs of the loop at row l.
+// The row behind the ARGs of the loop at row l. A `while`, since that row is what the loop looks for: the table's rightness says that it comes.
 pub fn first_of(table: &[u32], l: u32) -> u32
     requires { TableRight table.now × (l < size table.now) × (kind_at table.now l ≡ 4) }
     ensures { result ≡ first_of table.now l }
 {
     let mut r = l + 1;
-    while table::kind_at(table, r) == ARG {
+    while table::kind_at(table, r) == Kind::Arg as u32 {
         r += 1;
     }
     r
@@ -196,30 +180,26 @@ pub fn first_of(table: &[u32], l: u32) -> u32
 
 // All ARGs together, or all NEXTs: their words are put aside before the first of them changes.
 
-fn put_aside(table: &[u32], words: &[u32], aside: &mut [u32], from: u32, k: u32)
-    requires { TableRight table.now × Source table.now from k × Long words.now × Long aside.old }
+fn put_aside(table: &[u32], words: &[u32; 512], aside: &mut [u32; 512], from: u32, k: u32)
+    requires { TableRight table.now × Source table.now from k }
     ensures { Aside table.now from k words.now aside.new }
 {
-    let mut j: u32 = 0;
-    while j < k {
+    for j in 0..k {
         aside[j as usize] = named(table, words, from + j, 1);
-        j += 1;
     }
 }
 
-fn put_back(words: &mut [u32], aside: &[u32], to: u32, k: u32)
-    requires { (to + k ≤ 512) × Long words.old × Long aside.now }
+fn put_back(words: &mut [u32; 512], aside: &[u32; 512], to: u32, k: u32)
+    requires { to + k ≤ 512 }
     ensures { env_of words.new ≡ placed to k (env_of aside.now) (env_of words.old) }
 {
-    let mut j: u32 = 0;
-    while j < k {
+    for j in 0..k {
         words[(to + j) as usize] = word_of(aside, j);
-        j += 1;
     }
 }
 
-fn copy(table: &[u32], words: &mut [u32], aside: &mut [u32], from: u32, to: u32, k: u32)
-    requires { TableRight table.now × Copies table.now from to k × Long words.old × Long aside.old }
+fn copy(table: &[u32], words: &mut [u32; 512], aside: &mut [u32; 512], from: u32, to: u32, k: u32)
+    requires { TableRight table.now × Copies table.now from to k }
     ensures { env_of words.new ≡ copied table.now from to k (env_of words.old) }
 {
     put_aside(table, words, aside, from, k);
@@ -230,13 +210,13 @@ fn copy(table: &[u32], words: &mut [u32], aside: &mut [u32], from: u32, to: u32,
 
 pub fn first_turn(
     table: &[u32],
-    words: &mut [u32],
-    aside: &mut [u32],
+    words: &mut [u32; 512],
+    aside: &mut [u32; 512],
     l: u32,
     first: u32,
     index: u32,
 )
-    requires { LoopAt table.now l first × Long words.old × Long aside.old }
+    requires { LoopAt table.now l first }
     ensures { env_of words.new ≡ turn table.now l index (named table.now (env_of words.old)) (env_of words.old) }
 {
     copy(table, words, aside, l + 1, l + 1, first - (l + 1));
@@ -245,14 +225,14 @@ pub fn first_turn(
 
 pub fn next_turn(
     table: &[u32],
-    words: &mut [u32],
-    aside: &mut [u32],
+    words: &mut [u32; 512],
+    aside: &mut [u32; 512],
     l: u32,
     first: u32,
     end: u32,
     index: u32,
 )
-    requires { LoopAt table.now l first × (end ≡ end_of table.now l) × Long words.old × Long aside.old }
+    requires { LoopAt table.now l first × (end ≡ end_of table.now l) }
     ensures { env_of words.new ≡ turn table.now l index (next_named table.now (env_of words.old)) (env_of words.old) }
 {
     let k = first - (l + 1);
@@ -262,16 +242,30 @@ pub fn next_turn(
 
 // The loop is left: after its last turn the NEXTs keep what they name, with no turn they take what the ARGs name.
 
-pub fn leave(table: &[u32], words: &mut [u32], aside: &mut [u32], l: u32, first: u32, end: u32)
-    requires { LoopAt table.now l first × (end ≡ end_of table.now l) × Long words.old × Long aside.old }
+pub fn leave(
+    table: &[u32],
+    words: &mut [u32; 512],
+    aside: &mut [u32; 512],
+    l: u32,
+    first: u32,
+    end: u32,
+)
+    requires { LoopAt table.now l first × (end ≡ end_of table.now l) }
     ensures { env_of words.new ≡ leave table.now l (named table.now (env_of words.old)) (env_of words.old) }
 {
     let k = first - (l + 1);
     copy(table, words, aside, end - k, end - k, k);
 }
 
-pub fn pass_over(table: &[u32], words: &mut [u32], aside: &mut [u32], l: u32, first: u32, end: u32)
-    requires { LoopAt table.now l first × (end ≡ end_of table.now l) × Long words.old × Long aside.old }
+pub fn pass_over(
+    table: &[u32],
+    words: &mut [u32; 512],
+    aside: &mut [u32; 512],
+    l: u32,
+    first: u32,
+    end: u32,
+)
+    requires { LoopAt table.now l first × (end ≡ end_of table.now l) }
     ensures { env_of words.new ≡ leave table.now l (arg_named table.now (env_of words.old)) (env_of words.old) }
 {
     let k = first - (l + 1);
@@ -281,25 +275,23 @@ pub fn pass_over(table: &[u32], words: &mut [u32], aside: &mut [u32], l: u32, fi
 // The results.
 
 // The result of row r, where it is one, at place k; the place of the next one is answered.
-fn put_result(table: &[u32], words: &[u32], results: &mut [u32], r: u32, k: usize) -> usize
-    requires { TableRight table.now × (r < size table.now) × Long words.now × (k ≤ 512) × (kind_at table.now r ≡ 8 → k < length results.old) }
+fn put_result(table: &[u32], words: &[u32; 512], results: &mut [u32], r: u32, k: usize) -> usize
+    requires { TableRight table.now × (r < size table.now) × (k ≤ 512) × (kind_at table.now r ≡ 8 → k < length results.old) }
     ensures { (result ≡ one_more (kind_at table.now r) 8 k) × (results.new ≡ cond (eqb (kind_at table.now r) 8) (set results.old k (env_of words.now (word table.now r 1))) results.old) }
 {
-    if table::kind_at(table, r) == OUT {
+    if table::kind_at(table, r) == Kind::Out as u32 {
         results[k] = named(table, words, r, 1);
         return k + 1;
     }
     k
 }
 
-pub fn put_results(table: &[u32], n: u32, words: &[u32], results: &mut [u32])
-    requires { TableRight table.now × (n ≡ size table.now) × Long words.now × (rows_of 8 table.now n ≤ length results.old) }
+pub fn put_results(table: &[u32], n: u32, words: &[u32; 512], results: &mut [u32])
+    requires { TableRight table.now × (n ≡ size table.now) × (rows_of 8 table.now n ≤ length results.old) }
     ensures { results.new ≡ sets results.old 0 (results_from n table.now (env_of words.now) 0) }
 {
     let mut k: usize = 0;
-    let mut r: u32 = 0;
-    while r < n {
+    for r in 0..n {
         k = put_result(table, words, results, r, k);
-        r += 1;
     }
 }

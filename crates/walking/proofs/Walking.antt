@@ -19,14 +19,10 @@ use Rattle.reading.specs.Steps.{step_op, step_pick, step_other, step_faults, ste
 use Rattle.reading.specs.Within.{turns_made, here, then, joined}
 use Rattle.reading.specs.Standing.{Opened, Standing, turn_counts, no_turn_made, one_turn_made, end_opened, reach_stands}
 use Rattle.turning.specs.Words.{env_of, LoopAt}
-use Rattle.walking.specs.declared.Went.{Went}
-use Rattle.walking.specs.declared.Went.TheVariants.{On, Zero, Spent}
-use Rattle.walking.specs.Walks.{Ready, Moves, Walk, Faults, Dues, Walked, Rowed, Turned}
-
--- ---- what is ready stays so
-pub still_ready : {t : List ℕ} {n : ℕ} {notes words words₁ aside aside₁ : List ℕ} → Ready t n notes words aside → length words₁ ≡ length words → length aside₁ ≡ length aside
-    → Ready t n notes words₁ aside₁
-still_ready r a b = record { right = r.right; rows = r.rows; ends = r.ends; words_long = a ∙ r.words_long; aside_long = b ∙ r.aside_long }
+use Rattle.std.specs.Prelude.{Ok, Err}
+use Rattle.walking.specs.declared.Halt.{Halt}
+use Rattle.walking.specs.declared.Halt.TheVariants.{ZeroStep, Spent as HaltSpent}
+use Rattle.walking.specs.Walks.{Went, On, Zero, Moves, Walk, Faults, Dues, Walked, Rowed, Turned}
 
 -- ---- behind one another
 pub stays : (t : List ℕ) (i : ℕ) (e : List ℕ) (a : ℕ) → Moves t i e a i a e
@@ -70,15 +66,13 @@ module _ {t : List ℕ} (ok : TableRight t) where
       record { moves = moves_on v.moves w.moves; same = w.same ∙ v.same; fewer = omega arith; onward = omega arith; within = w.within }
 
   -- a walker that comes no further answers so for the one that called it
-  pub row_halts : (w : Went) (e₂ : List ℕ) {i p a l : ℕ} {e e₁ : List ℕ} → ((x y : ℕ) → w ≡ On x y → ⊥) → Moves t i e a p l e₁ → l ≤ a → Rowed t p e₁ l w e₂ → Walked t i e a w e₂
-  row_halts (On p l) e₂ h v g r = absurd (h p l refl)
-  row_halts (Zero r l) e₂ h v g w = faults_later v g w
-  row_halts Spent e₂ h v g w = dues_later v w
+  pub row_halts : (w : Halt) (e₂ : List ℕ) {i p a l : ℕ} {e e₁ : List ℕ} → Moves t i e a p l e₁ → l ≤ a → Rowed t p e₁ l (Err w) e₂ → Walked t i e a (Err w) e₂
+  row_halts (ZeroStep r l) e₂ v g w = faults_later v g w
+  row_halts HaltSpent e₂ v g w = dues_later v w
 
-  pub body_halts : (w : Went) (L : ℕ) (e₂ : List ℕ) {i p a l : ℕ} {e e₁ : List ℕ} → ((x y : ℕ) → w ≡ On x y → ⊥) → Moves t i e a p l e₁ → l ≤ a → Walked t p e₁ l w e₂ → Turned t L i e a w e₂
-  body_halts (On p l) L e₂ h v g r = absurd (h p l refl)
-  body_halts (Zero r l) L e₂ h v g w = faults_later v g w
-  body_halts Spent L e₂ h v g w = dues_later v w
+  pub body_halts : (w : Halt) (L : ℕ) (e₂ : List ℕ) {i p a l : ℕ} {e e₁ : List ℕ} → Moves t i e a p l e₁ → l ≤ a → Walked t p e₁ l (Err w) e₂ → Turned t L i e a (Err w) e₂
+  body_halts (ZeroStep r l) L e₂ v g w = faults_later v g w
+  body_halts HaltSpent L e₂ v g w = dues_later v w
 
 pub stands_still : (t : List ℕ) (i : ℕ) (e : List ℕ) (a : ℕ) → i ≤ size t → Walk t i e a i a e
 stands_still t i e a h = record { moves = stays t i e a; same = refl; fewer = omega arith; onward = omega arith; within = h }
@@ -195,7 +189,7 @@ module _ (t : List ℕ) (ok : TableRight t) (L : ℕ) (l : L < size t) (k : kind
       -- and its turns behind that
       pub turns_walk : (w : Went) (e₁ e₂ : List ℕ) {first : ℕ} → c ≢ 0 → a ≢ 0 → first ≡ first_of t L → env_of e₁ ≡ turn t L x (named t env) env → Turned t L first e₁ (a - 1) w e₂
           → Rowed t L e a w e₂
-      turns_walk (On p m) e₁ e₂ n z q h w =
+      turns_walk (Ok g) e₁ e₂ n z q h w =
           let b = w.2 in
           let r = w.1 in
           let s = (S.loop_span L l k).below in
@@ -209,8 +203,8 @@ module _ (t : List ℕ) (ok : TableRight t) (L : ℕ) (l : L < size t) (k : kind
             },
             omega arith,
           )
-      turns_walk (Zero r m) e₁ e₂ n z q h w = faults_later ok (opens_turn n z q h) (omega arith) w
-      turns_walk Spent e₁ e₂ n z q h w = dues_later ok (opens_turn n z q h) w
+      turns_walk (Err (ZeroStep r m)) e₁ e₂ n z q h w = faults_later ok (opens_turn n z q h) (omega arith) w
+      turns_walk (Err HaltSpent) e₁ e₂ n z q h w = dues_later ok (opens_turn n z q h) w
 
   -- as its body has come to row p
   module _ {first : ℕ} (qf : first ≡ first_of t L) {e₀ e₁ e : List ℕ} {a₀ a p m : ℕ} (so : Moves t first e₀ a₀ first a e₁) (v : Walked t first e₁ a (On p m) e) where

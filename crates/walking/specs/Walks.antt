@@ -3,11 +3,12 @@
 --   Ready                 what every walker relies on
 --   Moves, Walk           the reading comes from one row to another, with so many turns left
 --   Faults, Dues          it comes to a zero step; it comes to where all turns are used up and one more is due
+--   Went, On, Zero, Spent   how far a walker went
 --   Walked, Rowed, Turned     a body's rows up to its END, one row, the turns of a loop whose first has begun
 --
 -- Openings are no words of the walkers: what is said holds for all that may stand there, and the turns left tell how many they have become.
 -- Assumes nothing.
-use Rattle.std.specs.Prelude.{ℕ, suc, ◌+◌, ◌<◌, ◌≤◌, List, reverse, ◌⊎◌, ◌≡◌}
+use Rattle.std.specs.Prelude.{ℕ, suc, ◌+◌, ◌<◌, ◌≤◌, List, reverse, ◌⊎◌, ◌≡◌, Result, Ok, Err}
 use Rattle.table.specs.Rows.{kind_at, size}
 use Rattle.table.specs.Bodies.{end_of}
 use Rattle.table.specs.Right.{TableRight}
@@ -15,17 +16,16 @@ use Rattle.structure.specs.Behind.{loops_at}
 use Rattle.reading.specs.Reading.{Opening, State, at, zero_step, stop, step}
 use Rattle.reading.specs.Within.{turns_made, Reach, Due}
 use Rattle.reading.specs.Standing.{Standing}
-use Rattle.turning.specs.Words.{env_of, Long, Ends}
-use Rattle.walking.specs.declared.Went.{Went}
-use Rattle.walking.specs.declared.Went.TheVariants.{On, Zero, Spent}
+use Rattle.turning.specs.Words.{env_of, Ends}
+use Rattle.walking.specs.declared.At.{At}
+use Rattle.walking.specs.declared.Halt.{Halt}
+use Rattle.walking.specs.declared.Halt.TheVariants.{ZeroStep, Spent as HaltSpent}
 
--- a table that passes, its row count, its ENDs, and two lists long enough
-pub record Ready (t : List ℕ) (n : ℕ) (notes words aside : List ℕ) : Type 0 where
+-- a table that passes, its row count and its ENDs
+pub record Ready (t : List ℕ) (n : ℕ) (notes : List ℕ) : Type 0 where
   pub right : TableRight t
   pub rows : n ≡ size t
   pub ends : Ends t notes
-  pub words_long : Long words
-  pub aside_long : Long aside
 
 -- row i, words e, a turns left; then row p, words e₁, l turns left
 pub record Comes (t : List ℕ) (i : ℕ) (e : List ℕ) (a p l : ℕ) (e₁ : List ℕ) (os : List Opening) : Type 0 where
@@ -57,20 +57,33 @@ Faults t i e a r l = ((os : List Opening) → Standing t i os → Stops t i e a 
 abbrev pub Dues : List ℕ → ℕ → List ℕ → ℕ → Type 0
 Dues t i e a = (os : List Opening) → Standing t i os → Due t (turns_made os + a) (at i (env_of e) os)
 
+-- how far a walker went: to row p with l turns left; to a zero step at row r with l left; or to where a turn is due and none is left
+abbrev pub Went : Type 0
+Went = Result At Halt
+
+abbrev pub On : ℕ → ℕ → Went
+On p l = Ok (record { row = p; left = l })
+
+abbrev pub Zero : ℕ → ℕ → Went
+Zero r l = Err (ZeroStep r l)
+
+abbrev pub Spent : Went
+Spent = Err HaltSpent
+
 -- the rows of a body up to its END, or up to the table's end
 abbrev pub Walked : List ℕ → ℕ → List ℕ → ℕ → Went → List ℕ → Type 0
-Walked t i e a (On p l) e₁ = Walk t i e a p l e₁ × ((kind_at t p ≡ 7) ⊎ (p ≡ size t))
-Walked t i e a (Zero r l) e₁ = Faults t i e a r l
-Walked t i e a Spent e₁ = Dues t i e a
+Walked t i e a (Ok w) e₁ = Walk t i e a w.row w.left e₁ × ((kind_at t w.row ≡ 7) ⊎ (w.row ≡ size t))
+Walked t i e a (Err (ZeroStep r l)) e₁ = Faults t i e a r l
+Walked t i e a (Err HaltSpent) e₁ = Dues t i e a
 
 -- one row, with all that it opens
 abbrev pub Rowed : List ℕ → ℕ → List ℕ → ℕ → Went → List ℕ → Type 0
-Rowed t i e a (On p l) e₁ = Walk t i e a p l e₁ × (i < p)
-Rowed t i e a (Zero r l) e₁ = Faults t i e a r l
-Rowed t i e a Spent e₁ = Dues t i e a
+Rowed t i e a (Ok w) e₁ = Walk t i e a w.row w.left e₁ × (i < w.row)
+Rowed t i e a (Err (ZeroStep r l)) e₁ = Faults t i e a r l
+Rowed t i e a (Err HaltSpent) e₁ = Dues t i e a
 
 -- from the first row of loop L's body, in its first turn, to the row behind its END
 abbrev pub Turned : List ℕ → ℕ → ℕ → List ℕ → ℕ → Went → List ℕ → Type 0
-Turned t L i e a (On p l) e₁ = Moves t i e a p l e₁ × (p ≡ suc (end_of t L)) × (l ≤ a)
-Turned t L i e a (Zero r l) e₁ = Faults t i e a r l
-Turned t L i e a Spent e₁ = Dues t i e a
+Turned t L i e a (Ok w) e₁ = Moves t i e a w.row w.left e₁ × (w.row ≡ suc (end_of t L)) × (w.left ≤ a)
+Turned t L i e a (Err (ZeroStep r l)) e₁ = Faults t i e a r l
+Turned t L i e a (Err HaltSpent) e₁ = Dues t i e a

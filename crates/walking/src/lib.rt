@@ -6,28 +6,36 @@ ghost use Rattle.word.specs.Words.{condition, update};
 ghost use Rattle.table.specs.Rows.{kind_at, word, size};
 ghost use Rattle.table.specs.Bodies.{end_of, first_of};
 ghost use Rattle.table.specs.Right.{TableRight};
-ghost use Rattle.turning.specs.Words.{env_of, Long, Ends, LoopAt};
+ghost use Rattle.turning.specs.Words.{env_of, Ends, LoopAt};
 ghost use Rattle.walking.specs.Walks.{Ready, Walked, Rowed, Turned};
 
-const OP: u32 = 2;
+use table::Kind;
 
-const PICK: u32 = 3;
+// The row that a walk has come to, with so many turns left.
+#[derive(Clone, Copy, Debug, PartialEq, Eq)]
+pub struct At {
+    pub row: u32,
+    pub left: u64,
+}
 
-const FOR: u32 = 4;
-
-const END: u32 = 7;
-
-// At a row with so many turns left; a zero step at a FOR's row with so many left; or spent with a turn due.
+// A table that passes, its row count, and where its loops end: the END of the loop at row l stands at l.
 #[derive(Clone, Copy)]
-pub enum Went {
-    On(u32, u64),
-    Zero(u32, u64),
+pub struct Rows<'a> {
+    pub table: &'a [u32],
+    pub size: u32,
+    pub ends: &'a [u32; 512],
+}
+
+// Why a walk comes no further: a zero step at a FOR's row with so many turns left, or a turn that is due with none left.
+#[derive(Clone, Copy, Debug, PartialEq, Eq)]
+pub enum Halt {
+    ZeroStep { row: u32, left: u64 },
     Spent,
 }
 
 // The condition of the loop at row l for index x.
-fn holds(table: &[u32], words: &[u32], l: u32, x: u32) -> u32
-    requires { TableRight table.now × (l < size table.now) × (kind_at table.now l ≡ 4) × Long words.now }
+fn holds(table: &[u32], words: &[u32; 512], l: u32, x: u32) -> u32
+    requires { TableRight table.now × (l < size table.now) × (kind_at table.now l ≡ 4) }
     ensures { result ≡ condition (word table.now l 5) x (env_of words.now (word table.now l 3)) }
 {
     word::condition(
@@ -38,8 +46,8 @@ fn holds(table: &[u32], words: &[u32], l: u32, x: u32) -> u32
 }
 
 // Its index after one more turn.
-fn index_after(table: &[u32], words: &[u32], l: u32) -> u32
-    requires { TableRight table.now × (l < size table.now) × (kind_at table.now l ≡ 4) × Long words.now }
+fn index_after(table: &[u32], words: &[u32; 512], l: u32) -> u32
+    requires { TableRight table.now × (l < size table.now) × (kind_at table.now l ≡ 4) }
     ensures { result ≡ update (word table.now l 4) (env_of words.now l) (env_of words.now (word table.now l 2)) }
 {
     let index = turning::word_of(words, l);
@@ -57,123 +65,119 @@ fn end_of(table: &[u32], notes: &[u32; 512], l: u32) -> u32
 // One row that is no END.
 #[cycle(body_laps_row_turns)]
 fn row(
-    table: &[u32],
-    n: u32,
-    notes: &[u32; 512],
-    words: &mut [u32],
-    aside: &mut [u32],
+    rows: Rows,
+    words: &mut [u32; 512],
+    aside: &mut [u32; 512],
     i: u32,
     left: u64,
-) -> Went
-    requires { (i < n) × (kind_at table.now i ≡ 7 → ⊥) × Ready table.now n notes.now words.old aside.old }
-    ensures { Rowed table.now i words.old left result words.new }
+) -> Result<At, Halt>
+    requires { (i < rows.size) × (kind_at rows.table.now i ≡ 7 → ⊥) × Ready rows.table.now rows.size rows.ends.now }
+    ensures { Rowed rows.entry.table.now i words.old left result words.new }
 {
-    let kind = table::kind_at(table, i);
-    if kind == FOR {
-        return laps(table, n, notes, words, aside, i, left);
+    let kind = table::kind_at(rows.table, i);
+    if kind == Kind::For as u32 {
+        return laps(rows, words, aside, i, left);
     }
-    if kind == OP {
-        turning::op_row(table, words, i);
-        return Went::On(i + 1, left);
+    let next = At { row: i + 1, left };
+    if kind == Kind::Op as u32 {
+        turning::op_row(rows.table, words, i);
+        return Ok(next);
     }
-    if kind == PICK {
-        turning::pick_row(table, words, i);
-        return Went::On(i + 1, left);
+    if kind == Kind::Pick as u32 {
+        turning::pick_row(rows.table, words, i);
+        return Ok(next);
     }
-    Went::On(i + 1, left)
+    Ok(next)
 }
 
-// The rows from `from` on up to an END or the table's end.
+// The rows from `from` on up to an END or the table's end. A `while`, since a loop's rows are passed over at once.
 #[cycle(body_laps_row_turns)]
 pub fn body(
-    table: &[u32],
-    n: u32,
-    notes: &[u32; 512],
-    words: &mut [u32],
-    aside: &mut [u32],
+    rows: Rows,
+    words: &mut [u32; 512],
+    aside: &mut [u32; 512],
     from: u32,
     allow: u64,
-) -> Went
-    requires { (from ≤ n) × Ready table.now n notes.now words.old aside.old }
-    ensures { Walked table.now from words.old allow result words.new }
+) -> Result<At, Halt>
+    requires { (from ≤ rows.size) × Ready rows.table.now rows.size rows.ends.now }
+    ensures { Walked rows.entry.table.now from words.old allow result words.new }
 {
     let mut i = from;
     let mut left = allow;
-    while i < n {
-        if table::kind_at(table, i) == END {
-            return Went::On(i, left);
+    while i < rows.size {
+        if table::kind_at(rows.table, i) == Kind::End as u32 {
+            return Ok(At { row: i, left });
         }
-        let w = row(table, n, notes, words, aside, i, left);
-        let Went::On(p, m) = w else {
-            return w;
-        };
-        left = m;
-        i = p;
+        let next = row(rows, words, aside, i, left)?;
+        left = next.left;
+        i = next.row;
     }
-    Went::On(i, left)
+    Ok(At { row: i, left })
 }
 
 // The turns of the loop at row l, whose first has begun.
 #[cycle(body_laps_row_turns)]
 fn turns(
-    table: &[u32],
-    n: u32,
-    notes: &[u32; 512],
-    words: &mut [u32],
-    aside: &mut [u32],
+    rows: Rows,
+    words: &mut [u32; 512],
+    aside: &mut [u32; 512],
     l: u32,
     first: u32,
     allow: u64,
-) -> Went
-    requires { LoopAt table.now l first × Ready table.now n notes.now words.old aside.old }
-    ensures { Turned table.now l first words.old allow result words.new }
+) -> Result<At, Halt>
+    requires { LoopAt rows.table.now l first × Ready rows.table.now rows.size rows.ends.now }
+    ensures { Turned rows.entry.table.now l first words.old allow result words.new }
 {
     let mut left = allow;
     loop {
-        let w = body(table, n, notes, words, aside, first, left);
-        let Went::On(p, m) = w else {
-            return w;
-        };
-        let x = index_after(table, words, l);
-        if holds(table, words, l, x) == 0 {
-            turning::leave(table, words, aside, l, first, p);
-            return Went::On(p + 1, m);
+        let end = body(rows, words, aside, first, left)?;
+        let x = index_after(rows.table, words, l);
+        if holds(rows.table, words, l, x) == 0 {
+            turning::leave(rows.table, words, aside, l, first, end.row);
+            return Ok(At {
+                row: end.row + 1,
+                left: end.left,
+            });
         }
-        if m == 0 {
-            return Went::Spent;
+        if end.left == 0 {
+            return Err(Halt::Spent);
         }
-        turning::next_turn(table, words, aside, l, first, p, x);
-        left = m - 1;
+        turning::next_turn(rows.table, words, aside, l, first, end.row, x);
+        left = end.left - 1;
     }
 }
 
 // The loop at row l.
 #[cycle(body_laps_row_turns)]
 fn laps(
-    table: &[u32],
-    n: u32,
-    notes: &[u32; 512],
-    words: &mut [u32],
-    aside: &mut [u32],
+    rows: Rows,
+    words: &mut [u32; 512],
+    aside: &mut [u32; 512],
     l: u32,
     allow: u64,
-) -> Went
-    requires { (l < n) × (kind_at table.now l ≡ 4) × Ready table.now n notes.now words.old aside.old }
-    ensures { Rowed table.now l words.old allow result words.new }
+) -> Result<At, Halt>
+    requires { (l < rows.size) × (kind_at rows.table.now l ≡ 4) × Ready rows.table.now rows.size rows.ends.now }
+    ensures { Rowed rows.entry.table.now l words.old allow result words.new }
 {
-    if turning::named(table, words, l, 2) == 0 {
-        return Went::Zero(l, allow);
+    if turning::named(rows.table, words, l, 2) == 0 {
+        return Err(Halt::ZeroStep {
+            row: l,
+            left: allow,
+        });
     }
-    let start = turning::named(table, words, l, 1);
-    let first = turning::first_of(table, l);
-    if holds(table, words, l, start) == 0 {
-        let end = end_of(table, notes, l);
-        turning::pass_over(table, words, aside, l, first, end);
-        return Went::On(end + 1, allow);
+    let start = turning::named(rows.table, words, l, 1);
+    let first = turning::first_of(rows.table, l);
+    if holds(rows.table, words, l, start) == 0 {
+        let end = end_of(rows.table, rows.ends, l);
+        turning::pass_over(rows.table, words, aside, l, first, end);
+        return Ok(At {
+            row: end + 1,
+            left: allow,
+        });
     }
     if allow == 0 {
-        return Went::Spent;
+        return Err(Halt::Spent);
     }
-    turning::first_turn(table, words, aside, l, first, start);
-    turns(table, n, notes, words, aside, l, first, allow - 1)
+    turning::first_turn(rows.table, words, aside, l, first, start);
+    turns(rows, words, aside, l, first, allow - 1)
 }

@@ -1,8 +1,15 @@
 -- `firing::fire_node` meets its contract. Assumes nothing.
-use Rattle.std.proofs.Common.{length, ap, ◌∙◌}
+use Rattle.std.proofs.Common.{arith, length, ap, ◌∙◌}
 use Rattle.lent.specs.Left.{left_by}
-use Rattle.firing.proofs.Fired.{stepped_is, node_waits, node_fires}
+use Rattle.firing.proofs.Fired.{placed_within, stepped_is, node_waits, node_fires}
 use Rattle.firing.proofs.fire_node.Goals as goal
+
+pub act-requires : goal.act-requires
+act-requires c =
+    let n = c.requires.node in
+    let e = c.requires.size in
+    let w = c.wide-wires.ensures.0 in
+    (placed_within c.args.graph.now c.args.i c.row_of-row.result c.row_of-row.ensures.row (length c.args.state.now) c.requires, omega arith)
 
 pub returns-in-Some : goal.returns-in-Some
 returns-in-Some c =

@@ -1,6 +1,6 @@
 -- `forking::leg` meets its contract. One use has the wire itself; each but the last of several has a fork's first leg, the last one the second leg of the last fork.
 -- Assumes nothing.
-use Rattle.forking.proofs.Uses.{leg_whole, leg_first, leg_last}
+use Rattle.forking.proofs.Tallies.{leg_whole, leg_first, leg_last}
 use Rattle.forking.proofs.leg.Goals as goal
 
 pub returns-then-uses-le1 : goal.returns-then-uses-le1

@@ -1,4 +1,4 @@
-use Prim.Native.Nat.{ℕ, ◌-◌, ◌*◌, ◌<◌, ◌≤◌}
+use Prim.Native.Nat.{ℕ, ◌*◌, ◌<◌, ◌≤◌}
 use mathlib.Core.Path.{◌≡◌}
 use lib.ListN.{get_or}
 use Rattle.graph.specs.Below.{total}
@@ -7,7 +7,4 @@ use Rattle.forking.specs.Tallied.{Below}
 use Rattle.forking.proofs.note_free.Given as goal
 
 abbrev pub invariant-loop-w : goal.invariant-loop-w
-invariant-loop-w l = (l.w ≤ l.all) × (l.nodes ≡ total (nodes_by l.uses) l.w) × (l.added ≡ total (wires_by l.uses) l.w) × (l.nodes ≤ 40000 * l.w) × (l.added ≤ 80000 * l.w) × ((p : ℕ) → p < l.w → get_or l.free p 0 ≡ free_of l.uses l.wires p) × Below 700000000 l.free
-
-abbrev pub decreases-loop-w : goal.decreases-loop-w
-decreases-loop-w l = l.all - l.w
+invariant-loop-w l = (l.nodes ≡ total (nodes_by l.count) l.w) × (l.added ≡ total (wires_by l.count) l.w) × (l.nodes ≤ 40000 * l.w) × (l.added ≤ 80000 * l.w) × ((p : ℕ) → p < l.w → get_or l.free p 0 ≡ free_of l.count l.wires p) × Below 700000000 l.free

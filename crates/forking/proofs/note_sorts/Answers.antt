@@ -8,19 +8,13 @@ use Rattle.forking.proofs.note_sorts.Goals as goal
 
 pub loop-i-init : goal.loop-i-init
 unfolding sorted_rows
-loop-i-init c = (omega arith, refl)
+loop-i-init c = refl
 
 pub note_sort-requires : goal.note_sort-requires
 note_sort-requires c = (omega arith, c.requires.1 c.loop-i.i (omega arith))
 
-pub overflow_add-i : goal.overflow_add-i
-overflow_add-i c = omega arith
-
-pub loop-i-smaller : goal.loop-i-smaller
-loop-i-smaller c = omega arith
-
 pub loop-i-preserved : goal.loop-i-preserved
-loop-i-preserved c = (omega arith, sorted_more c.args.rows.now c.loop-i.i c.args.sorts.now c.loop-i.invariant.1 c.note_sort.ensures)
+loop-i-preserved c = sorted_more c.args.rows.now c.loop-i.i c.args.sorts.now c.loop-i.invariant c.note_sort.ensures
 
 pub returns : goal.returns
-returns c = let last : c.loop-i.i ≡ c.args.nodes = omega arith in rw (← last) c.loop-i.invariant.1
+returns c = let last : c.loop-i.i ≡ c.args.nodes = omega arith in rw (← last) c.loop-i.invariant

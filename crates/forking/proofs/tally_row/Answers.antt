@@ -3,7 +3,7 @@
 use Prim.Native.Nat.{◌+◌, ◌*◌}
 use native.Mathlib.Omega.{arith}
 use lib.ListN.{get_or}
-use Rattle.forking.proofs.Uses.{looser, one_more_below, three_uses}
+use Rattle.forking.proofs.Tallies.{looser, one_more_below, three_uses}
 use Rattle.forking.proofs.tally_row.Goals as goal
 
 pub tally-requires : goal.tally-requires

@@ -1,4 +1,3 @@
-use Prim.Native.Nat.{◌-◌, ◌≤◌}
 use mathlib.Core.Path.{◌≡◌}
 use Rattle.graph.specs.Below.{joined}
 use Rattle.forking.specs.Written.{row_inputs}
@@ -6,7 +5,4 @@ use Rattle.forking.specs.Tallied.{tallied}
 use Rattle.forking.proofs.tally_rows.Given as goal
 
 abbrev pub invariant-loop-i : goal.invariant-loop-i
-invariant-loop-i l = (l.i ≤ l.nodes) × (l.seen ≡ tallied l.initial.seen (joined (row_inputs l.rows) l.i))
-
-abbrev pub decreases-loop-i : goal.decreases-loop-i
-decreases-loop-i l = l.nodes - l.i
+invariant-loop-i l = l.seen ≡ tallied l.initial.seen (joined (row_inputs l.rows) l.i)

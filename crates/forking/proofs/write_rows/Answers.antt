@@ -6,12 +6,12 @@ use Rattle.graph.specs.Below.{joined}
 use Rattle.forking.specs.Written.{row_inputs, tallied_more, joined_long}
 use Rattle.forking.specs.Tallied.{tallied}
 use Rattle.forking.proofs.Words.{next_row_written}
-use Rattle.forking.proofs.Uses.{tally_below}
+use Rattle.forking.proofs.Tallies.{tally_below}
 use Rattle.forking.proofs.write_rows.Goals as goal
 
 pub loop-i-init : goal.loop-i-init
 unfolding joined tallied
-loop-i-init c = (omega arith, refl, refl, refl)
+loop-i-init c = (refl, refl, refl)
 
 pub overflow_mul-i : goal.overflow_mul-i
 overflow_mul-i c = omega arith
@@ -20,20 +20,14 @@ pub overflow_add-at : goal.overflow_add-at
 overflow_add-at c = omega arith
 
 pub write_row-requires : goal.write_row-requires
-write_row-requires c = let a = c.args in let l = c.loop-i in let n = joined_long (row_inputs a.rows.now) 3 (λ j. refl) l.i in (omega arith, c.requires.1 l.i (omega arith), c.requires.2, c.requires.3, tally_below {n = 30000} a.seen.now (joined (row_inputs a.rows.now) l.i) c.requires.4 l.invariant.2 (omega arith), omega arith)
-
-pub overflow_add-i : goal.overflow_add-i
-overflow_add-i c = omega arith
-
-pub loop-i-smaller : goal.loop-i-smaller
-loop-i-smaller c = omega arith
+write_row-requires c = let a = c.args in let l = c.loop-i in let n = joined_long (row_inputs a.rows.now) 3 (λ j. refl) l.i in (omega arith, c.requires.1 l.i (omega arith), tally_below {n = 30000} a.seen.now (joined (row_inputs a.rows.now) l.i) c.requires.2 l.invariant.1 (omega arith), omega arith)
 
 pub loop-i-preserved : goal.loop-i-preserved
 loop-i-preserved c = let a = c.args in let l = c.loop-i in
-    (omega arith, c.write_row.auto.graph ∙ l.invariant.1, tallied_more (row_inputs a.rows.now) l.i a.seen.now l.invariant.2 c.write_row.ensures.0, next_row_written a.free.now a.uses.now a.rows.now a.seen.now a.at l.i a.graph.now l.invariant.3 l.invariant.2 c.write_row.ensures.1)
+    (c.write_row.auto.graph ∙ l.invariant.0, tallied_more (row_inputs a.rows.now) l.i a.seen.now l.invariant.1 c.write_row.ensures.0, next_row_written _ _ a.rows.now a.seen.now a.at l.i a.graph.now l.invariant.2 l.invariant.1 c.write_row.ensures.1)
 
 pub shape_of-graph : goal.shape_of-graph
-shape_of-graph c = c.loop-i.invariant.1
+shape_of-graph c = c.loop-i.invariant.0
 
 pub returns : goal.returns
-returns c = let last : c.loop-i.i ≡ c.args.nodes = omega arith in rw (← last) c.loop-i.invariant.3
+returns c = let last : c.loop-i.i ≡ c.args.nodes = omega arith in rw (← last) c.loop-i.invariant.2

@@ -1,4 +1,3 @@
-use Prim.Native.Nat.{◌-◌, ◌≤◌}
 use mathlib.Core.Path.{◌≡◌}
 use lib.Seq.{sets}
 use lib.ListN.{length}
@@ -8,7 +7,4 @@ use Rattle.forking.specs.Tallied.{tallied}
 use Rattle.forking.proofs.write_rows.Given as goal
 
 abbrev pub invariant-loop-i : goal.invariant-loop-i
-invariant-loop-i l = (l.i ≤ l.nodes) × (length l.graph ≡ length l.initial.graph) × (l.seen ≡ tallied l.initial.seen (joined (row_inputs l.rows) l.i)) × (l.graph ≡ sets l.initial.graph l.at (joined (row_words l.free l.uses l.rows l.initial.seen) l.i))
-
-abbrev pub decreases-loop-i : goal.decreases-loop-i
-decreases-loop-i l = l.nodes - l.i
+invariant-loop-i l = (length l.graph ≡ length l.initial.graph) × (l.seen ≡ tallied l.initial.seen (joined (row_inputs l.rows) l.i)) × (l.graph ≡ sets l.initial.graph l.at (joined (row_words l.uses.free l.uses.count l.rows l.initial.seen) l.i))

@@ -1,8 +1,6 @@
 -- `forking::write_starts` meets its contract. After r rows their words stand in a run, and the inputs among them are counted.
 -- Assumes nothing.
-use mathlib.Core.Path.{◌≡◌, refl, ◌∙◌}
-use native.Mathlib.Omega.{arith}
-use lib.Dec.{eqb}
+use Rattle.std.proofs.Common.{◌≡◌, refl, ◌∙◌, eqb, arith}
 use Rattle.graph.specs.Below.{joined}
 use Rattle.table.specs.Rows.{kind_at}
 use Rattle.lowered.specs.Gathered.{those}
@@ -12,50 +10,21 @@ use Rattle.forking.proofs.write_starts.Goals as goal
 
 pub loop-r-init : goal.loop-r-init
 unfolding joined those
-loop-r-init c = (omega arith, refl, refl, refl)
-
-pub overflow_mul-r : goal.overflow_mul-r
-overflow_mul-r c = omega arith
-
-pub offset_bounds-table-r : goal.offset_bounds-table-r
-offset_bounds-table-r c = omega arith
-
-pub bounds-table-r : goal.bounds-table-r
-bounds-table-r c = omega arith
-
-pub overflow_mul-r-in-loop-r : goal.overflow_mul-r-in-loop-r
-overflow_mul-r-in-loop-r c = omega arith
-
-pub overflow_add-r : goal.overflow_add-r
-overflow_add-r c = omega arith
-
-pub offset_bounds-table-r-in-loop-r : goal.offset_bounds-table-r-in-loop-r
-offset_bounds-table-r-in-loop-r c = omega arith
-
-pub bounds-table-r-in-loop-r : goal.bounds-table-r-in-loop-r
-bounds-table-r-in-loop-r c = omega arith
-
-pub overflow_mul-r-in-loop-r-2 : goal.overflow_mul-r-in-loop-r-2
-overflow_mul-r-in-loop-r-2 c = omega arith
-
-pub overflow_add-at : goal.overflow_add-at
-overflow_add-at c = omega arith
+loop-r-init c = (refl, refl, refl)
 
 pub write_start-inputs-requires : goal.write_start-inputs-requires
-write_start-inputs-requires c = let n = those_few (λ q. eqb (kind_at c.args.table.now q) 0) c.loop-r.r in (omega arith, omega arith)
-
-pub overflow_add-r-in-loop-r : goal.overflow_add-r-in-loop-r
-overflow_add-r-in-loop-r c = omega arith
-
-pub loop-r-smaller : goal.loop-r-smaller
-loop-r-smaller c = omega arith
+write_start-inputs-requires c = let n = those_few (λ q. eqb (kind_at c.args.passed.now.words.now q) 0) c.loop-r.r in let f = c.args.passed.now.passing.few in (omega arith, omega arith)
 
 pub loop-r-preserved : goal.loop-r-preserved
-loop-r-preserved c = let l = c.loop-r in let a = c.args in let m = inputs_more a.table.now l.r in let s = c.write_start-inputs.ensures.0 in
-    (omega arith, c.write_start-inputs.auto.graph ∙ l.invariant.1, omega arith, next_start_written a.table.now a.at l.r a.graph.now l.invariant.2 l.invariant.3 c.write_start-inputs.ensures.1)
+loop-r-preserved c =
+    let l = c.loop-r in
+    let t = c.args.passed.now.words.now in
+    let m = inputs_more t l.r in
+    let s = rw c.kind.ensures at c.write_start-inputs.ensures.0 in
+    (c.write_start-inputs.auto.graph ∙ l.invariant.0, omega arith, next_start_written t c.args.at l.r _ l.invariant.1 l.invariant.2 (rw (c.kind.ensures, c.word_at-word.ensures) at c.write_start-inputs.ensures.1))
 
 pub shape_of-graph : goal.shape_of-graph
-shape_of-graph c = c.loop-r.invariant.1
+shape_of-graph c = c.loop-r.invariant.0
 
 pub returns : goal.returns
-returns c = let last : c.loop-r.r ≡ c.args.starts = omega arith in rw (← last) c.loop-r.invariant.3
+returns c = let last : c.loop-r.r ≡ c.args.starts = omega arith in rw (← last) c.loop-r.invariant.2

@@ -1,4 +1,3 @@
-use Prim.Native.Nat.{◌-◌, ◌≤◌}
 use mathlib.Core.Path.{◌≡◌}
 use lib.Seq.{sets}
 use lib.ListN.{length}
@@ -8,7 +7,4 @@ use Rattle.forking.proofs.Words.{inputs_before}
 use Rattle.forking.proofs.write_starts.Given as goal
 
 abbrev pub invariant-loop-r : goal.invariant-loop-r
-invariant-loop-r l = (l.r ≤ l.starts) × (length l.graph ≡ length l.initial.graph) × (l.inputs ≡ inputs_before l.table l.r) × (l.graph ≡ sets l.initial.graph l.at (joined (start_words l.table) l.r))
-
-abbrev pub decreases-loop-r : goal.decreases-loop-r
-decreases-loop-r l = l.starts - l.r
+invariant-loop-r l = (length l.graph ≡ length l.initial.graph) × (l.inputs ≡ inputs_before l.passed.words.now l.r) × (l.graph ≡ sets l.initial.graph l.at (joined (start_words l.passed.words.now) l.r))

@@ -1,17 +1,10 @@
 -- `graph::count` meets its contract. One read, or none where the input is absent.
 -- Assumes nothing.
-use native.Mathlib.Omega.{arith}
 use Rattle.graph.proofs.Readers.{one_read, no_read}
 use Rattle.graph.proofs.count.Goals as goal
 
-pub bounds-seen-w : goal.bounds-seen-w
-bounds-seen-w c = omega (arith, c.requires c.if-present.true)
+pub returns-in-Some : goal.returns-in-Some
+returns-in-Some c = one_read _ c.in-Some.is c.wide-w.ensures.0 c.once_more.ensures
 
-pub bounds-seen-w-then-present : goal.bounds-seen-w-then-present
-bounds-seen-w-then-present c = omega (arith, c.requires c.if-present.true)
-
-pub returns-then-present : goal.returns-then-present
-returns-then-present c = one_read _ c.if-present.true c.wide-w.ensures.0 c.once_more.ensures
-
-pub returns-else-present : goal.returns-else-present
-returns-else-present c = no_read _ _ c.if-present.false
+pub returns-in_default : goal.returns-in_default
+returns-in_default c = no_read _ c.in_default.is

@@ -1,7 +1,7 @@
 -- `graph::mark_nodes` meets its contract. The table after i nodes holds the sorts of their outputs, from S on; beside it runs the next output number.
 -- Assumes nothing.
 use Prim.Native.Nat.{◌<◌}
-use mathlib.Core.Path.{◌≡◌, refl}
+use mathlib.Core.Path.{refl}
 use native.Mathlib.Omega.{arith}
 use Rattle.graph.specs.Below.{joined, total, total_more, total_within}
 use Rattle.graph.specs.Graph.{node_count, node_at, output_count}
@@ -36,6 +36,3 @@ loop-i-preserved c = let g = c.args.graph.now in
       omega (arith, outputs_at g i c.row_place.result h c.row_place.ensures, total_more (λ j. output_count (node_at g j)) i),
       one_more_marked g i _ c.loop-i.next c.loop-i.invariant.1 c.loop-i.invariant.2 c.mark_node.ensures,
     )
-
-pub returns : goal.returns
-returns c = let last : c.loop-i.i ≡ node_count c.args.graph.now = omega arith in rw (← last) c.loop-i.invariant.2

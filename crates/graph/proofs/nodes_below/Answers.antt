@@ -1,13 +1,9 @@
 -- `graph::nodes_below` meets its contract. The loop follows `every`.
 -- Assumes nothing.
 use mathlib.Core.Path.{sym, ◌∙◌}
-use native.Mathlib.Nat.{sub-zero}
 use native.Mathlib.Omega.{arith}
 use Rattle.graph.specs.Below.{every_go, every_stop, every_end}
 use Rattle.graph.proofs.nodes_below.Goals as goal
-
-pub loop-i-init : goal.loop-i-init
-loop-i-init c = (omega arith, rw (sub-zero, c.wide-nodes.ensures.0))
 
 pub loop-i-preserved : goal.loop-i-preserved
 loop-i-preserved c = (omega arith, sym (every_go _ _ _ c.loop-i-test.true c.node_below.ensures c.if-not-node_below.false) ∙ c.loop-i.invariant.1)

@@ -16,9 +16,6 @@ pub loop-i-init : goal.loop-i-init
 unfolding total
 loop-i-init c = (omega arith, omega arith, omega arith, rw (sub-zero, c.wide-nodes.ensures.0))
 
-pub overflow_add-next : goal.overflow_add-next
-overflow_add-next c = omega (arith, outputs_small (kind_of (get_or c.args.graph.now c.row_place.result 0)))
-
 pub loop-i-preserved : goal.loop-i-preserved
 loop-i-preserved c = let g = c.args.graph.now in
     let i = c.loop-i.i in

@@ -1,14 +1,10 @@
 -- `graph::nodes_sorted` meets its contract. The loop follows `every`.
 -- Assumes nothing.
 use mathlib.Core.Path.{sym, ◌∙◌}
-use native.Mathlib.Nat.{sub-zero}
 use native.Mathlib.Omega.{arith}
 use Rattle.graph.specs.Below.{every_go, every_stop, every_end}
 use Rattle.graph.specs.Refusal.{node_is_below}
 use Rattle.graph.proofs.nodes_sorted.Goals as goal
-
-pub loop-i-init : goal.loop-i-init
-loop-i-init c = (omega arith, rw (sub-zero, c.wide-nodes.ensures.0))
 
 pub node_sorted-requires : goal.node_sorted-requires
 node_sorted-requires c = (c.requires.0, omega arith, node_is_below _ c.requires.1 _ (omega arith), c.requires.2)

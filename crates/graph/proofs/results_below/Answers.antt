@@ -1,16 +1,12 @@
 -- `graph::results_below` meets its contract. The loop follows `every`.
 -- Assumes nothing.
 use mathlib.Core.Path.{sym, ◌∙◌, ap}
-use native.Mathlib.Nat.{sub-zero}
 use native.Mathlib.Omega.{arith}
 use lib.Dec.{ltb}
 use borrow.Author.Tests.{lt-ltb, le-ltb}
 use Rattle.graph.specs.Below.{every_go, every_stop, every_end}
 use Rattle.graph.specs.Graph.{wire_count}
 use Rattle.graph.proofs.results_below.Goals as goal
-
-pub loop-k-init : goal.loop-k-init
-loop-k-init c = (omega arith, rw (sub-zero, c.wide-results.ensures.0))
 
 pub loop-k-preserved : goal.loop-k-preserved
 loop-k-preserved c = let g = c.args.graph.now in

@@ -1,18 +1,14 @@
 -- `graph::results_sorted` meets its contract. The loop follows `every`.
 -- Assumes nothing.
 use mathlib.Core.Path.{sym, ◌∙◌}
-use native.Mathlib.Nat.{sub-zero}
 use native.Mathlib.Omega.{arith}
 use Rattle.graph.specs.Below.{every_go, every_stop, every_end}
 use Rattle.graph.specs.Refusal.{result_is_below}
 use Rattle.graph.proofs.Sorts.{result_sorted_is}
 use Rattle.graph.proofs.results_sorted.Goals as goal
 
-pub loop-k-init : goal.loop-k-init
-loop-k-init c = (omega arith, rw (sub-zero, c.wide-results.ensures.0))
-
 pub sorted-requires : goal.sorted-requires
-sorted-requires c = λ t. omega (arith, result_is_below _ c.requires.1 c.loop-k.k (omega arith))
+sorted-requires c = omega (arith, result_is_below _ c.requires.1 c.loop-k.k (omega arith))
 
 pub loop-k-preserved : goal.loop-k-preserved
 loop-k-preserved c = (

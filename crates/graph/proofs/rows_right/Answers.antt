@@ -3,10 +3,10 @@
 use Rattle.graph.specs.Refusal.{rows_right}
 use Rattle.graph.proofs.rows_right.Goals as goal
 
-pub returns-then-not-starts_right : goal.returns-then-not-starts_right
+pub returns-else-starts_right : goal.returns-else-starts_right
 unfolding rows_right
-returns-then-not-starts_right c = rw (← c.starts_right.ensures, c.if-not-starts_right.true)
+returns-else-starts_right c = rw (← c.starts_right.ensures, c.if-starts_right.false)
 
-pub returns : goal.returns
+pub returns-then-starts_right : goal.returns-then-starts_right
 unfolding rows_right
-returns c = rw (← c.starts_right.ensures, c.if-not-starts_right.false) c.nodes_right.ensures
+returns-then-starts_right c = rw (← c.starts_right.ensures, c.if-starts_right.true) c.nodes_right.ensures

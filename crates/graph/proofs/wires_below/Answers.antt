@@ -3,10 +3,10 @@
 use Rattle.graph.specs.Refusal.{wires_below}
 use Rattle.graph.proofs.wires_below.Goals as goal
 
-pub returns-then-not-nodes_below : goal.returns-then-not-nodes_below
+pub returns-else-nodes_below : goal.returns-else-nodes_below
 unfolding wires_below
-returns-then-not-nodes_below c = rw (← c.nodes_below.ensures, c.if-not-nodes_below.true)
+returns-else-nodes_below c = rw (← c.nodes_below.ensures, c.if-nodes_below.false)
 
-pub returns : goal.returns
+pub returns-then-nodes_below : goal.returns-then-nodes_below
 unfolding wires_below
-returns c = rw (← c.nodes_below.ensures, c.if-not-nodes_below.false) c.results_below.ensures
+returns-then-nodes_below c = rw (← c.nodes_below.ensures, c.if-nodes_below.true) c.results_below.ensures

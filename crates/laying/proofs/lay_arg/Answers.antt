@@ -12,7 +12,7 @@ overflow_add-w c = omega (arith, c.requires.2 c.args.r, c.noted_at-w.ensures)
 pub returns : goal.returns
 returns c =
     let A = c.args in
-    two_arg_rows A.rows.now _ _ A.wires.now A.at.now _ _ _ _ _ _ _ _ _ _ _ _
+    two_arg_rows A.rows.now _ _ A.bases.now.wires A.at.now _ _ _ _ _ _ _ _ _ _ _ _
     c.noted_at-i.ensures
     c.noted_at-w.ensures
     c.noted_at.ensures

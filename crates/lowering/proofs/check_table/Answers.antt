@@ -1,25 +1,21 @@
 -- `lowering::check_table` meets its contract. 1 to 9 by the rows, then 10 by the counts.
 -- Assumes nothing.
-use Prim.Native.Nat.{ℕ}
-use mathlib.Core.Path.{refl}
-use native.Mathlib.Omega.{arith}
-use lib.ListN.{length-replicate}
-use Rattle.forking.specs.Tallied.{none_tallied}
-use Rattle.measuring.specs.Passed.{few_rows, passing}
-use Rattle.lowering.proofs.Answers.{check_refused, check_done, check_crowded}
+use Rattle.std.proofs.Common.{refl, arith}
+use Rattle.refusal.specs.Numbers.{number_above, passed_on}
+use Rattle.lowering.proofs.Answers.{check_refused, check_measured}
 use Rattle.lowering.proofs.check_table.Goals as goal
 
-pub returns-then-checked-ne0 : goal.returns-then-checked-ne0
-returns-then-checked-ne0 c = record { answer = check_refused c.args.table.now c.check_rows-checked.ensures c.if-checked-ne0.true }
+pub returns-in_err-passed : goal.returns-in_err-passed
+returns-in_err-passed c =
+    let e = c.in_err-passed.field-0.0 in
+    record { answer = rw (passed_on _ _ c.from_residual.ensures.1) (check_refused c.args.table.now c.in_err-passed.ensures.answer (λ z. let a = number_above e.why in omega arith)) }
 
-pub overflow_cast-n : goal.overflow_cast-n
-overflow_cast-n c = let f = few_rows c.args.table.now c.check_rows-checked.ensures c.if-checked-ne0.false in omega arith
-
-pub measure-sizes-requires : goal.measure-sizes-requires
-measure-sizes-requires c = (passing c.args.table.now c.check_rows-checked.ensures c.if-checked-ne0.false refl, length-replicate {A = ℕ} 28672 0, length-replicate {A = ℕ} 512 0, none_tallied, none_tallied)
-
-pub returns-then-sizes : goal.returns-then-sizes
-returns-then-sizes c = record { answer = check_done c.args.table.now c.check_rows-checked.ensures c.if-checked-ne0.false c.measure-sizes.ensures.room c.if-sizes.true }
+pub returns-in_err-measure : goal.returns-in_err-measure
+returns-in_err-measure c =
+    let w = c.in_ok-passed.ensures.words in
+    record { answer = rw (passed_on _ _ c.from_residual-in_err-measure.ensures.1) (check_measured c.args.table.now c.in_ok-passed.ensures.answer refl (rw w at c.in_err-measure.ensures.answer)) }
 
 pub returns : goal.returns
-returns c = record { answer = check_crowded c.args.table.now c.check_rows-checked.ensures c.if-checked-ne0.false refl c.measure-sizes.ensures.room c.if-sizes.false }
+returns c =
+    let w = c.in_ok-passed.ensures.words in
+    record { answer = check_measured c.args.table.now c.in_ok-passed.ensures.answer refl (rw w at c.in_ok-measure.ensures.answer) }

@@ -9,7 +9,7 @@ use Rattle.forking.specs.Sorted.{outputs_fit}
 use Rattle.forking.specs.Written.{row_inputs, joined_long}
 use Rattle.forking.specs.Tallied.{none_tallied}
 use Rattle.lowering.proofs.Whole.{rooms_of, graph_written}
-use Rattle.forking.proofs.Uses.{looser, tally_below}
+use Rattle.forking.proofs.Tallies.{looser, tally_below}
 use Rattle.lowering.proofs.write_graph.Goals as goal
 
 pub four-requires : goal.four-requires
@@ -17,59 +17,57 @@ four-requires c = let p = c.requires in let k = rooms_of _ _ _ _ _ p.0 (length c
 
 pub write_starts-requires : goal.write_starts-requires
 write_starts-requires c = let p = c.requires in let k = rooms_of _ _ _ _ _ p.0 (length c.args.graph.now) p.1 p.2 in
-    let ks = k.starts in let kt = k.table in let ka = k.all in let e = c.wide-starts.ensures.0 in let l = c.four.auto.graph in
-    (omega arith, omega arith, omega arith)
+    let ks = k.starts in let kt = k.table in let ka = k.all in let l = c.four.auto.graph in let P = c.args.passed.now.passing.rows in
+    (omega arith, omega arith)
 
 pub tally_rows-requires : goal.tally_rows-requires
-tally_rows-requires c = let p = c.requires in let Y = p.0 in let e = c.wide-plain.ensures.0 in let d = p.1.plain in let f = Y.nodes_few in
+tally_rows-requires c = let p = c.requires in let Y = p.0 in let d = p.1.plain in let f = Y.nodes_few in
     (omega arith, λ i h. (scratch_of _ Y.structure _ _ Y.laid Y.results f Y.wires_few).sourced i (omega arith), looser none_tallied (omega arith))
 
 pub write_results-requires : goal.write_results-requires
 write_results-requires c = let p = c.requires in let Y = p.0 in let a = c.args in let k = rooms_of _ _ _ _ _ Y (length a.graph.now) p.1 p.2 in
     let kr = k.results in let kp = k.nodes in let ka = k.all in
-    let e = c.wide-results.ensures.0 in let e3 = c.wide-plain.ensures.0 in let e1 = c.wide-starts.ensures.0 in let d = p.1.results in
+    let d = p.1.results in
     let l = c.four.auto.graph in let m = c.write_starts.auto.graph in
-    let n = joined_long (row_inputs a.rows.now) 3 (λ j. refl) c.wide-plain.result in (
+    let n = joined_long (row_inputs a.rows.now) 3 (λ j. refl) c.args.sizes.now.plain in (
       omega arith,
       λ i h. (scratch_of _ Y.structure _ _ Y.laid Y.results Y.nodes_few Y.wires_few).result i (omega arith),
-      Y.free_small,
-      Y.uses_small,
-      tally_below {n = 30000} _ (joined (row_inputs a.rows.now) c.wide-plain.result) none_tallied c.tally_rows.ensures (omega arith),
+      tally_below {n = 30000} _ (joined (row_inputs a.rows.now) c.args.sizes.now.plain) none_tallied c.tally_rows.ensures (omega arith),
       omega arith,
     )
 
 pub write_rows-requires : goal.write_rows-requires
 write_rows-requires c = let p = c.requires in let Y = p.0 in let a = c.args in let k = rooms_of _ _ _ _ _ Y (length a.graph.now) p.1 p.2 in
-    let kp = k.nodes in let ka = k.all in let e = c.wide-results.ensures.0 in let e3 = c.wide-plain.ensures.0 in let e1 = c.wide-starts.ensures.0 in let d = p.1.plain in
+    let kp = k.nodes in let ka = k.all in let d = p.1.plain in
     let l = c.four.auto.graph in let m = c.write_starts.auto.graph in let o = c.write_results.auto.graph in
-    (omega arith, λ i h. (scratch_of _ Y.structure _ _ Y.laid Y.results Y.nodes_few Y.wires_few).sourced i (omega arith), Y.free_small, Y.uses_small, looser none_tallied (omega arith), omega arith)
+    (omega arith, λ i h. (scratch_of _ Y.structure _ _ Y.laid Y.results Y.nodes_few Y.wires_few).sourced i (omega arith), looser none_tallied (omega arith), omega arith)
 
 pub note_sorts-requires : goal.note_sorts-requires
-note_sorts-requires c = let p = c.requires in let Y = p.0 in let e3 = c.wide-plain.ensures.0 in let d = p.1.plain in let f = Y.nodes_few in
+note_sorts-requires c = let p = c.requires in let Y = p.0 in let d = p.1.plain in let f = Y.nodes_few in
     (omega arith, λ i h. outputs_fit _ _ Y.laid Y.wires_few i (omega arith))
 
 pub overflow_add-place-3 : goal.overflow_add-place-3
 overflow_add-place-3 c = let p = c.requires in let k = rooms_of _ _ _ _ _ p.0 (length c.args.graph.now) p.1 p.2 in
-    let ks = k.starts in let kr = k.results in let kp = k.nodes in let e = c.wide-results.ensures.0 in let e3 = c.wide-plain.ensures.0 in let e1 = c.wide-starts.ensures.0 in omega arith
+    let ks = k.starts in let kr = k.results in let kp = k.nodes in omega arith
 
 pub overflow_mul-plain : goal.overflow_mul-plain
 overflow_mul-plain c = let p = c.requires in let k = rooms_of _ _ _ _ _ p.0 (length c.args.graph.now) p.1 p.2 in
-    let ks = k.starts in let kr = k.results in let kp = k.nodes in let e = c.wide-results.ensures.0 in let e3 = c.wide-plain.ensures.0 in let e1 = c.wide-starts.ensures.0 in omega arith
+    let ks = k.starts in let kr = k.results in let kp = k.nodes in omega arith
 
 pub overflow_add-place-4 : goal.overflow_add-place-4
 overflow_add-place-4 c = let p = c.requires in let k = rooms_of _ _ _ _ _ p.0 (length c.args.graph.now) p.1 p.2 in
-    let ks = k.starts in let kr = k.results in let kp = k.nodes in let e = c.wide-results.ensures.0 in let e3 = c.wide-plain.ensures.0 in let e1 = c.wide-starts.ensures.0 in omega arith
+    let ks = k.starts in let kr = k.results in let kp = k.nodes in omega arith
 
 pub write_forks-requires : goal.write_forks-requires
 write_forks-requires c = let p = c.requires in let Y = p.0 in let a = c.args in let k = rooms_of _ _ _ _ _ Y (length a.graph.now) p.1 p.2 in
-    let kw = k.wires in let ka = k.all in let e = c.wide-results.ensures.0 in let e3 = c.wide-plain.ensures.0 in let e1 = c.wide-starts.ensures.0 in
+    let kw = k.wires in let ka = k.all in
     let l = c.four.auto.graph in let m = c.write_starts.auto.graph in let o = c.write_results.auto.graph in let q = c.write_rows.auto.graph in
-    (omega arith, Y.uses_small, Y.free_small, omega arith)
+    (omega arith, omega arith)
 
 pub shape_of-graph : goal.shape_of-graph
 shape_of-graph c = let l = c.four.auto.graph in let m = c.write_starts.auto.graph in let o = c.write_results.auto.graph in let q = c.write_rows.auto.graph in let r = c.write_forks.auto.graph in omega arith
 
 pub returns : goal.returns
 returns c = let a = c.args in let p = c.requires in
-    graph_written a.table.now a.rows.now a.outs.now a.uses.now a.free.now p.0 _ _ _ _ _ _ p.1 a.graph.now _ _ _ _ _ c.wide-plain.ensures.0 c.wide-starts.ensures.0 c.wide-results.ensures.0
+    graph_written a.passed.now.words.now a.rows.now a.outs.now _ _ p.0 _ _ _ _ _ _ p.1 a.graph.now _ _ _ _ _ refl refl refl
     c.four.ensures c.write_starts.ensures c.tally_rows.ensures c.write_results.ensures c.write_rows.ensures c.note_sorts.ensures c.write_forks.ensures

@@ -1,10 +1,9 @@
 -- `machine::input_count` meets its contract. Assumes nothing.
 use Rattle.machine.proofs.Loading.{inputs_below, inputs_go}
 use Rattle.graph.specs.Accepted.{accepted}
-use Rattle.graph.specs.Graph.{start_count, inputs_before}
 use Rattle.graph.specs.Below.{total}
 use native.Mathlib.Omega.{arith}
-use mathlib.Core.Path.{◌≡◌, refl, ap, ◌∙◌}
+use mathlib.Core.Path.{refl}
 use Rattle.machine.proofs.input_count.Goals as goal
 
 pub bounds-graph-2 : goal.bounds-graph-2
@@ -22,6 +21,3 @@ inputs_after-inputs-requires c = let a = (accepted _ c.requires).shape in let b 
 
 pub loop-k-preserved : goal.loop-k-preserved
 loop-k-preserved c = (omega arith, c.loop-k.invariant.1, inputs_go c.args.graph.now c.loop-k.k c.loop-k.invariant.2 c.inputs_after-inputs.ensures)
-
-pub returns : goal.returns
-returns c = record { answer = let e : c.loop-k.k ≡ start_count c.args.graph.now = omega arith in c.wide.ensures.0 ∙ c.loop-k.invariant.2 ∙ ap (inputs_before c.args.graph.now) e }

@@ -6,7 +6,6 @@ use Rattle.refusal.specs.declared.Refusal.{Refusal}
 use Rattle.machine.specs.Entries.{LoadAnswer}
 use Rattle.machine.proofs.Answers.{passed_on}
 use Rattle.machine.proofs.Loading.{load_graph, load_state_lem, load_inputs, load_done}
-use Rattle.graph.specs.Accepted.{accepted}
 use mathlib.Core.Path.{sym, ◌∙◌}
 use Rattle.machine.proofs.load.Goals as goal
 
@@ -20,7 +19,7 @@ pub returns-then-inputs-input_count : goal.returns-then-inputs-input_count
 returns-then-inputs-input_count c = record { answer = load_inputs _ _ _ (sym c.in_ok-check_graph.ensures.answer) (c.if-state-state_length.false ∙ c.state_length.ensures.answer) (λ e. c.if-inputs-input_count.true (e ∙ sym c.input_count.ensures.answer)) }
 
 pub fill-requires : goal.fill-requires
-fill-requires c = (record { accepted = accepted _ (sym c.in_ok-check_graph.ensures.answer); inputs = c.if-inputs-input_count.false ∙ c.input_count.ensures.answer }, c.if-state-state_length.false ∙ c.state_length.ensures.answer)
+fill-requires c = c.if-state-state_length.false ∙ c.state_length.ensures.answer
 
 pub returns : goal.returns
 returns c = record { answer = load_done _ _ _ (sym c.in_ok-check_graph.ensures.answer) (c.if-state-state_length.false ∙ c.state_length.ensures.answer) (c.if-inputs-input_count.false ∙ c.input_count.ensures.answer) c.fill.ensures.state }

@@ -8,19 +8,13 @@ use Rattle.naming.specs.Carried.{Marks}
 use Rattle.naming.proofs.mark_loop.Goals as goal
 
 pub loop-r-init : goal.loop-r-init
-loop-r-init c = (omega arith, no_marks c.args.table.now c.args.l)
+loop-r-init c = no_marks c.args.notes.now.passed.words.now c.args.l
 
 pub mark_row-requires : goal.mark_row-requires
-mark_row-requires c = let q = c.requires in (q.0, q.1, q.2, q.3, omega arith, c.loop-r.invariant.1)
-
-pub overflow_add-r : goal.overflow_add-r
-overflow_add-r c = omega arith
-
-pub loop-r-smaller : goal.loop-r-smaller
-loop-r-smaller c = omega arith
+mark_row-requires c = let q = c.requires in (q.0, q.1, c.loop-r-test.true, c.loop-r.invariant)
 
 pub loop-r-preserved : goal.loop-r-preserved
-loop-r-preserved c = (omega arith, c.mark_row.ensures)
+loop-r-preserved c = c.mark_row.ensures
 
 pub returns : goal.returns
-returns c = let a = c.args in subst (λ (k : ℕ). Marks a.table.now a.l k c.loop-r.marks) (let l = c.loop-r.invariant.0 in omega arith) c.loop-r.invariant.1
+returns c = let a = c.args in subst (λ (k : ℕ). Marks a.notes.now.passed.words.now a.l k c.loop-r.marks) (omega arith) c.loop-r.invariant

@@ -7,7 +7,7 @@ use Rattle.naming.specs.Carried.{Marked}
 use Rattle.naming.proofs.mark_operands.Goals as goal
 
 pub loop-j-init : goal.loop-j-init
-loop-j-init c = (omega arith, none_marked _ _ _ c.requires.4)
+loop-j-init c = none_marked _ _ _ c.requires.4
 
 pub operand_at-v-requires : goal.operand_at-v-requires
 operand_at-v-requires c = (c.requires.0, c.requires.1, omega arith)
@@ -19,16 +19,10 @@ pub offset_bounds-marks-v : goal.offset_bounds-marks-v
 offset_bounds-marks-v c = let e = c.operand_at-v.ensures in let h = c.requires.3 c.loop-j.j c.loop-j-test.true in omega arith
 
 pub bounds-marks-v : goal.bounds-marks-v
-bounds-marks-v c = let e = c.operand_at-v.ensures in let h = c.requires.3 c.loop-j.j c.loop-j-test.true in let m = c.loop-j.invariant.1.long in omega arith
-
-pub overflow_add-j : goal.overflow_add-j
-overflow_add-j c = omega arith
-
-pub loop-j-smaller : goal.loop-j-smaller
-loop-j-smaller c = omega arith
+bounds-marks-v c = let e = c.operand_at-v.ensures in let h = c.requires.3 c.loop-j.j c.loop-j-test.true in let m = c.loop-j.invariant.long in omega arith
 
 pub loop-j-preserved : goal.loop-j-preserved
-loop-j-preserved c = let e = c.operand_at-v.ensures in let h = c.requires.3 c.loop-j.j c.loop-j-test.true in (omega arith, mark_more c.args.table.now c.args.r c.loop-j.j _ _ _ c.loop-j.invariant.1 e (omega arith))
+loop-j-preserved c = let e = c.operand_at-v.ensures in let h = c.requires.3 c.loop-j.j c.loop-j-test.true in mark_more c.args.table.now c.args.r c.loop-j.j _ _ _ c.loop-j.invariant e (omega arith)
 
 pub returns : goal.returns
-returns c = subst (λ k. Marked c.args.table.now c.args.r k c.args.marks.now c.loop-j.marks) (let l = c.loop-j.invariant.0 in omega arith) c.loop-j.invariant.1
+returns c = subst (λ k. Marked c.args.table.now c.args.r k c.args.marks.now c.loop-j.marks) (omega arith) c.loop-j.invariant

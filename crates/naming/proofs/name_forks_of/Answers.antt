@@ -1,5 +1,6 @@
 -- `naming::name_forks_of` meets its contract. A DRAIN where there is no use, else a FORK for each use but the last.
 -- Assumes nothing.
+use mathlib.Core.Path.{refl}
 use native.Mathlib.Omega.{arith}
 use Rattle.naming.proofs.Naming.{drain_room, drain_named, fork_room, forks_named}
 use Rattle.naming.proofs.name_forks_of.Goals as goal
@@ -14,4 +15,4 @@ pub repeat-requires : goal.repeat-requires
 repeat-requires c = let a = c.args in let q = c.requires.0 in (omega arith, fork_room a.uses a.a a.b a.c a.at c.if-uses-eq0.false c.requires.2)
 
 pub returns : goal.returns
-returns c = let a = c.args in forks_named a.uses a.a a.b a.c a.at a.nodes.now c.if-uses-eq0.false c.wide.ensures.0 c.repeat.ensures
+returns c = let a = c.args in forks_named a.uses a.a a.b a.c a.at a.nodes.now c.if-uses-eq0.false refl c.repeat.ensures

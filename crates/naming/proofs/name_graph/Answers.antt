@@ -1,34 +1,81 @@
 -- `naming::name_graph` meets its contract. 1 to 9 by the rows, then 10 by the counts or the lent words; else the names are written.
 -- Assumes nothing.
-use Prim.Native.Nat.{ℕ}
-use mathlib.Core.Path.{refl, ◌∙◌}
-use native.Mathlib.Omega.{arith}
-use lib.ListN.{length, length-replicate}
+use Rattle.std.proofs.Common.{ℕ, ◌≡◌, refl, sym, ap, ap₂, ◌∙◌, subst, List, length, arith}
+use Rattle.std.specs.Prelude.{Result, Err}
+use Rattle.refusal.specs.Numbers.{number_of, refused_number, refused_row, number_above, passed_on}
+use Rattle.refusal.specs.declared.Refused.{Refused}
+use Rattle.table.specs.Rows.{size}
+use Rattle.carrying.specs.declared.Passed.{Passed}
+use Rattle.naming.specs.Answers.{named, NameAnswer}
+use Rattle.naming.specs.Told.{named_nodes, named_wires}
+use Rattle.naming.specs.declared.Named.{Named}
 use Rattle.naming.proofs.Answers.{words_fit, uses_known, name_refused, name_crowded, few_nodes_lent, few_wires_lent, name_done}
-use Rattle.measuring.specs.Passed.{off, on, few_rows, passing}
-use Rattle.forking.specs.Tallied.{none_tallied}
 use Rattle.naming.proofs.name_graph.Goals as goal
 
-pub returns-then-checked-ne0 : goal.returns-then-checked-ne0
-returns-then-checked-ne0 c = record { answer = let a = c.args in name_refused a.table.now c.check_rows-checked.ensures a.nodes.now a.wires.now c.if-checked-ne0.true c.refused.ensures }
+-- a refusal that is passed on leaves the lent words
+passed : (t nodes wires : List ℕ) (r : Result Named Refused) (e : Refused) → r ≡ Err e → NameAnswer t nodes wires (number_of e.why) e.row 0 0 nodes wires
+    → NameAnswer t nodes wires (refused_number r) (refused_row r) (named_nodes r) (named_wires r) nodes wires
+passed t nodes wires r e q a = subst (λ (x : Result Named Refused). NameAnswer t nodes wires (refused_number x) (refused_row x) (named_nodes x) (named_wires x) nodes wires) (sym q) a
 
-pub overflow_cast-n : goal.overflow_cast-n
-overflow_cast-n c = let f = few_rows c.args.table.now c.check_rows-checked.ensures c.if-checked-ne0.false in omega arith
+pub returns-in_err-passed : goal.returns-in_err-passed
+returns-in_err-passed c =
+    let a = c.args in
+    let e = c.in_err-passed.field-0.0 in
+    record { answer = passed _ _ _ _ _ (passed_on _ _ c.from_residual.ensures.1) (name_refused a.table.now c.in_err-passed.ensures.answer a.nodes.now a.wires.now (λ z. let x = number_above e.why in omega arith) refl) }
 
-pub measure-sizes-requires : goal.measure-sizes-requires
-measure-sizes-requires c = (passing c.args.table.now c.check_rows-checked.ensures c.if-checked-ne0.false refl, length-replicate {A = ℕ} 28672 0, length-replicate {A = ℕ} 512 0, none_tallied, none_tallied)
+pub returns-in_err-sizes : goal.returns-in_err-sizes
+returns-in_err-sizes c =
+    let a = c.args in
+    let w = c.in_ok-passed.ensures.words in
+    let e = c.in_err-sizes.field-0.0 in
+    record {
+      answer = passed _ _ _ _ _ (passed_on _ _ c.from_residual-in_err-sizes.ensures.1)
+          (name_crowded a.table.now c.in_ok-passed.ensures.answer a.nodes.now a.wires.now refl (rw w at c.in_err-sizes.ensures.answer) (λ z. let x = number_above e.why in omega arith));
+    }
 
-pub returns-then-not-sizes : goal.returns-then-not-sizes
-returns-then-not-sizes c = record { answer = let a = c.args in name_crowded a.table.now c.check_rows-checked.ensures a.nodes.now a.wires.now c.if-checked-ne0.false refl c.measure-sizes.ensures.room (off _ c.if-not-sizes.true) c.refused-then-not-sizes.ensures }
+pub returns-then-nodes-sizes : goal.returns-then-nodes-sizes
+returns-then-nodes-sizes c =
+    let a = c.args in
+    let w = c.in_ok-passed.ensures.words in
+    let m = rw w at c.in_ok-sizes.ensures.ready in
+    let P = c.in_ok-passed.passed in
+    record {
+      answer = few_nodes_lent a.table.now c.in_ok-passed.ensures.answer a.nodes.now a.wires.now refl (P.passing.rows ∙ ap size w) m.1.nodes refl c.if-nodes-sizes.true
+          (ap₂ (λ (x y : ℕ). named x y 0 0) (ap number_of c.crowded.ensures.0) c.crowded.ensures.1);
+    }
 
-pub returns-then-nodes-wide : goal.returns-then-nodes-wide
-returns-then-nodes-wide c = record { answer = let a = c.args in let m = (c.measure-sizes.ensures.ready (on _ c.if-not-sizes.false)).1 in few_nodes_lent a.table.now c.check_rows-checked.ensures a.nodes.now a.wires.now c.if-checked-ne0.false refl m.nodes c.wide.ensures.0 c.if-nodes-wide.true c.refused-then-nodes-wide.ensures }
-
-pub returns-then-wires-wide : goal.returns-then-wires-wide
-returns-then-wires-wide c = record { answer = let a = c.args in let m = (c.measure-sizes.ensures.ready (on _ c.if-not-sizes.false)).1 in few_wires_lent a.table.now c.check_rows-checked.ensures a.nodes.now a.wires.now c.if-checked-ne0.false refl m.wires c.wide-2.ensures.0 c.if-wires-wide.true c.refused-then-wires-wide.ensures }
+pub returns-then-wires-sizes : goal.returns-then-wires-sizes
+returns-then-wires-sizes c =
+    let a = c.args in
+    let w = c.in_ok-passed.ensures.words in
+    let m = rw w at c.in_ok-sizes.ensures.ready in
+    let P = c.in_ok-passed.passed in
+    let E = c.crowded-then-wires-sizes.ensures in
+    record {
+      answer = few_wires_lent a.table.now c.in_ok-passed.ensures.answer a.nodes.now a.wires.now refl (P.passing.rows ∙ ap size w) m.1.wires refl c.if-wires-sizes.true
+          (ap₂ (λ (x y : ℕ). named x y 0 0) (ap number_of E.0) E.1);
+    }
 
 pub write_names-requires : goal.write_names-requires
-write_names-requires c = let a = c.args in let y = c.measure-sizes.ensures.ready (on _ c.if-not-sizes.false) in let m = y.1 in let f = words_fit a.table.now (length a.nodes.now) (length a.wires.now) m.nodes m.wires c.wide.ensures.0 c.wide-2.ensures.0 c.if-nodes-wide.false c.if-wires-wide.false in let p = c.wide-plain.ensures.0 ∙ m.plain in let s = c.wide-sources.ensures.0 ∙ m.plain_wires_lem in let pf = y.0.nodes_few in let sf = y.0.wires_few in (passing a.table.now c.check_rows-checked.ensures c.if-checked-ne0.false refl, uses_known y.0, p, s, omega arith, omega arith, f.0, f.1)
+write_names-requires c =
+    let a = c.args in
+    let w = c.in_ok-passed.ensures.words in
+    let y = rw w at c.in_ok-sizes.ensures.ready in
+    let m = y.1 in
+    let f = words_fit a.table.now (length a.nodes.now) (length a.wires.now) m.nodes m.wires refl refl c.if-nodes-sizes.false c.if-wires-sizes.false in
+    let pf = y.0.nodes_few in
+    let sf = y.0.wires_few in
+    let mp = m.plain in
+    let ms = m.plain_wires_lem in
+    let n : c.new-notes.result.passed.words.now ≡ a.table.now = ap (λ (p : Passed). p.words.now) c.new-notes.ensures ∙ w in
+    rw n (uses_known y.0, m.plain, m.plain_wires_lem, omega arith, omega arith, f.0, f.1)
 
 pub returns : goal.returns
-returns c = record { answer = let a = c.args in let y = c.measure-sizes.ensures.ready (on _ c.if-not-sizes.false) in let m = y.1 in let f = words_fit a.table.now (length a.nodes.now) (length a.wires.now) m.nodes m.wires c.wide.ensures.0 c.wide-2.ensures.0 c.if-nodes-wide.false c.if-wires-wide.false in name_done a.table.now c.check_rows-checked.ensures a.nodes.now a.wires.now c.if-checked-ne0.false c.measure-sizes.ensures.room (on _ c.if-not-sizes.false) m.nodes m.wires f c.write_names.ensures }
+returns c =
+    let a = c.args in
+    let w = c.in_ok-passed.ensures.words in
+    let y = rw w at c.in_ok-sizes.ensures.ready in
+    let m = y.1 in
+    let f = words_fit a.table.now (length a.nodes.now) (length a.wires.now) m.nodes m.wires refl refl c.if-nodes-sizes.false c.if-wires-sizes.false in
+    let n : c.new-notes.result.passed.words.now ≡ a.table.now = ap (λ (p : Passed). p.words.now) c.new-notes.ensures ∙ w in
+    record { answer = name_done a.table.now c.in_ok-passed.ensures.answer a.nodes.now a.wires.now refl (rw w at c.in_ok-sizes.ensures.answer) m.nodes m.wires f (rw n at c.write_names.ensures) }

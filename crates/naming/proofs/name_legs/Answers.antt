@@ -13,28 +13,16 @@ pub overflow_mul-p : goal.overflow_mul-p
 overflow_mul-p c = omega arith
 
 pub loop-w-init : goal.loop-w-init
-loop-w-init c = let a = c.args in (omega arith, nothing_written (leg_names_by a.wires.now a.uses.now) (3 * a.sources) a.wires.now)
-
-pub offset_bounds-uses-w : goal.offset_bounds-uses-w
-offset_bounds-uses-w c = omega arith
-
-pub bounds-uses-w : goal.bounds-uses-w
-bounds-uses-w c = let u = c.requires.1.long in omega arith
+loop-w-init c = let a = c.args in nothing_written (leg_names_by a.wires.now a.uses.now.count) (3 * a.sources) a.wires.now
 
 pub name_legs_of-p-requires : goal.name_legs_of-p-requires
-name_legs_of-p-requires c = let a = c.args in let l = c.loop-w in let q = c.requires in let t = c.loop-w-test.true in let s = same_long (leg_names_by a.wires.now a.uses.now) (3 * a.sources) l.invariant.1 in let r = room_left (leg_names_by a.wires.now a.uses.now) (3 * a.sources) l.invariant.1 a.sources t q.2 (leg_names_by a.wires.now a.uses.now l.w) refl in let g = legs_long (get_or a.uses.now l.w 0) (get_or a.wires.now (3 * l.w) 0) (get_or a.wires.now (3 * l.w + 1) 0) (get_or a.wires.now (3 * l.w + 2) 0) in let q0 = q.0 in let q2 = q.2 in (q.1.low l.w (omega arith), omega arith, omega arith, omega arith)
-
-pub overflow_add-w : goal.overflow_add-w
-overflow_add-w c = omega arith
-
-pub loop-w-smaller : goal.loop-w-smaller
-loop-w-smaller c = omega arith
+name_legs_of-p-requires c = let a = c.args in let l = c.loop-w in let q = c.requires in let t = c.loop-w-test.true in let s = same_long (leg_names_by a.wires.now a.uses.now.count) (3 * a.sources) l.invariant in let r = room_left (leg_names_by a.wires.now a.uses.now.count) (3 * a.sources) l.invariant a.sources t q.1 (leg_names_by a.wires.now a.uses.now.count l.w) refl in let g = legs_long (get_or a.uses.now.count l.w 0) (get_or a.wires.now (3 * l.w) 0) (get_or a.wires.now (3 * l.w + 1) 0) (get_or a.wires.now (3 * l.w + 2) 0) in let q0 = q.0 in let q2 = q.1 in (a.uses.now.few.low l.w (omega arith), omega arith, omega arith, omega arith)
 
 pub loop-w-preserved : goal.loop-w-preserved
-loop-w-preserved c = let a = c.args in let l = c.loop-w in let e = c.name_legs_of-p.ensures in let e0 = e.0 in let k = get_or a.uses.now l.w 0 in let g = legs_long k (get_or l.wires (3 * l.w) 0) (get_or l.wires (3 * l.w + 1) 0) (get_or l.wires (3 * l.w + 2) 0) in (omega arith, one_written (leg_names_by a.wires.now a.uses.now) (3 * a.sources) l.invariant.1 (legs_of k (get_or l.wires (3 * l.w) 0) (get_or l.wires (3 * l.w + 1) 0) (get_or l.wires (3 * l.w + 2) 0)) (name_kept a.uses.now a.wires.now l.wires a.sources l.w l.p l.invariant.1 c.loop-w-test.true k refl) (omega arith) e.1)
+loop-w-preserved c = let a = c.args in let l = c.loop-w in let e = c.name_legs_of-p.ensures in let e0 = e.0 in let k = get_or a.uses.now.count l.w 0 in let g = legs_long k (get_or l.wires (3 * l.w) 0) (get_or l.wires (3 * l.w + 1) 0) (get_or l.wires (3 * l.w + 2) 0) in one_written (leg_names_by a.wires.now a.uses.now.count) (3 * a.sources) l.invariant (legs_of k (get_or l.wires (3 * l.w) 0) (get_or l.wires (3 * l.w + 1) 0) (get_or l.wires (3 * l.w + 2) 0)) (name_kept a.uses.now.count a.wires.now l.wires a.sources l.w l.p l.invariant c.loop-w-test.true k refl) (omega arith) e.1
 
 pub shape_of-wires : goal.shape_of-wires
-shape_of-wires c = let a = c.args in same_long (leg_names_by a.wires.now a.uses.now) (3 * a.sources) c.loop-w.invariant.1
+shape_of-wires c = let a = c.args in same_long (leg_names_by a.wires.now a.uses.now.count) (3 * a.sources) c.loop-w.invariant
 
 pub returns : goal.returns
-returns c = let a = c.args in (all_written (leg_names_by a.wires.now a.uses.now) (3 * a.sources) c.loop-w.invariant.1 a.sources (let l = c.loop-w.invariant.0 in omega arith)).1
+returns c = let a = c.args in (all_written (leg_names_by a.wires.now a.uses.now.count) (3 * a.sources) c.loop-w.invariant a.sources (omega arith)).1

@@ -1,10 +1,7 @@
-use Prim.Native.Nat.{◌-◌, ◌*◌, ◌≤◌}
+use Prim.Native.Nat.{◌*◌}
 use Rattle.naming.proofs.Writing.{Written}
 use Rattle.naming.specs.Parts.{leg_names_by}
 use Rattle.naming.proofs.name_legs.Given as goal
 
 abbrev pub invariant-loop-w : goal.invariant-loop-w
-invariant-loop-w l = (l.w ≤ l.sources) × Written (leg_names_by l.initial.wires l.uses) (3 * l.sources) l.w l.p l.initial.wires l.wires
-
-abbrev pub decreases-loop-w : goal.decreases-loop-w
-decreases-loop-w l = l.sources - l.w
+invariant-loop-w l = Written (leg_names_by l.initial.wires l.uses.count) (3 * l.sources) l.w l.p l.initial.wires l.wires

@@ -11,25 +11,16 @@ use Rattle.naming.specs.Parts.{start_names}
 use Rattle.naming.proofs.name_starts.Goals as goal
 
 pub loop-r-init : goal.loop-r-init
-loop-r-init c = (omega arith, nothing_written (start_names c.args.table.now) 0 c.args.wires.now)
-
-pub kind_at-requires : goal.kind_at-requires
-kind_at-requires c = let p = c.requires.0.rows in let f = c.requires.0.few in (omega arith, omega arith)
+loop-r-init c = nothing_written (start_names c.args.passed.now.words.now) 0 c.args.wires.now
 
 pub name_start-p-requires : goal.name_start-p-requires
-name_start-p-requires c = let a = c.args in let l = c.loop-r in let h = c.requires.1 in room_left (start_names a.table.now) 0 l.invariant.1 a.n c.loop-r-test.true (omega arith) _ (ap (λ (k : ℕ). cond {A = List ℕ} (leb k 1) (0 ∷ l.r ∷ 0 ∷ []) []) c.kind_at.ensures)
-
-pub overflow_add-r : goal.overflow_add-r
-overflow_add-r c = omega arith
-
-pub loop-r-smaller : goal.loop-r-smaller
-loop-r-smaller c = omega arith
+name_start-p-requires c = let a = c.args in let l = c.loop-r in let h = c.requires in room_left (start_names a.passed.now.words.now) 0 l.invariant a.passed.now.rows c.loop-r-test.true (omega arith) _ (ap (λ (k : ℕ). cond {A = List ℕ} (leb k 1) (0 ∷ l.r ∷ 0 ∷ []) []) c.kind.ensures)
 
 pub loop-r-preserved : goal.loop-r-preserved
-loop-r-preserved c = let a = c.args in let l = c.loop-r in let e = c.name_start-p.ensures in (omega arith, one_written (start_names a.table.now) 0 l.invariant.1 _ (ap (λ (k : ℕ). cond {A = List ℕ} (leb k 1) (0 ∷ l.r ∷ 0 ∷ []) []) c.kind_at.ensures) e.0 e.1)
+loop-r-preserved c = let a = c.args in let l = c.loop-r in let e = c.name_start-p.ensures in one_written (start_names a.passed.now.words.now) 0 l.invariant _ (ap (λ (k : ℕ). cond {A = List ℕ} (leb k 1) (0 ∷ l.r ∷ 0 ∷ []) []) c.kind.ensures) e.0 e.1
 
 pub shape_of-wires : goal.shape_of-wires
-shape_of-wires c = same_long (start_names c.args.table.now) 0 c.loop-r.invariant.1
+shape_of-wires c = same_long (start_names c.args.passed.now.words.now) 0 c.loop-r.invariant
 
 pub returns : goal.returns
-returns c = let w = all_written (start_names c.args.table.now) 0 c.loop-r.invariant.1 c.args.n (let l = c.loop-r.invariant.0 in omega arith) in let w0 = w.0 in (omega arith, w.1)
+returns c = let w = all_written (start_names c.args.passed.now.words.now) 0 c.loop-r.invariant c.args.passed.now.rows (omega arith) in let w0 = w.0 in (omega arith, w.1)

@@ -1,10 +1,6 @@
-use Prim.Native.Nat.{◌-◌, ◌≤◌}
 use Rattle.naming.proofs.Writing.{Written}
 use Rattle.naming.specs.Parts.{output_names_by}
 use Rattle.naming.proofs.name_wires.Given as goal
 
 abbrev pub invariant-loop-i : goal.invariant-loop-i
-invariant-loop-i l = (l.i ≤ l.plain) × Written (output_names_by l.nodes) l.at l.i l.p l.initial.wires l.wires
-
-abbrev pub decreases-loop-i : goal.decreases-loop-i
-decreases-loop-i l = l.plain - l.i
+invariant-loop-i l = Written (output_names_by l.nodes) l.at l.i l.p l.initial.wires l.wires

@@ -1,11 +1,8 @@
-use Prim.Native.Nat.{◌-◌, ◌+◌, ◌*◌, ◌≤◌}
+use Prim.Native.Nat.{◌+◌, ◌*◌}
 use mathlib.Core.List.{[], ◌∷◌}
 use mathlib.Core.Path.{◌≡◌}
 use Rattle.naming.proofs.Writing.{Written}
 use Rattle.naming.proofs.repeat.Given as goal
 
 abbrev pub invariant-loop-i : goal.invariant-loop-i
-invariant-loop-i l = (l.i ≤ l.count) × (l.p ≡ l.at + 3 * l.i) × Written (λ j. l.a ∷ l.b ∷ l.c ∷ []) l.at l.i l.p l.initial.words l.words
-
-abbrev pub decreases-loop-i : goal.decreases-loop-i
-decreases-loop-i l = l.count - l.i
+invariant-loop-i l = (l.p ≡ l.at + 3 * l.i) × Written (λ j. l.a ∷ l.b ∷ l.c ∷ []) l.at l.i l.p l.initial.words l.words

@@ -10,9 +10,6 @@ pub loop-left-init : goal.loop-left-init
 unfolding finish
 loop-left-init c = (refl, omega arith, (c.args.allowance, omega arith, refl))
 
-pub sweep_once-swept-requires : goal.sweep_once-swept-requires
-sweep_once-swept-requires c = record { graph = c.requires.graph; size = c.loop-left.invariant.0 ∙ c.requires.size }
-
 pub returns-then-swept-left : goal.returns-then-swept-left
 returns-then-swept-left c = record { finished = (sym (sweeps_stop _ _ _ _ c.loop-left.invariant.2.0 c.sweep_once-swept.ensures.swept.0 c.if-swept-left.true) ∙ c.loop-left.invariant.2.2, omega arith) }
 

@@ -6,7 +6,4 @@ use Rattle.sheet_read.proofs.Storing.{Going}
 use Rattle.sheet_read.proofs.rows.Given as goal
 
 abbrev pub invariant-loop-r : goal.invariant-loop-r
-invariant-loop-r l = (l.p ≤ length l.text) × (l.r ≤ l.count) × (length l.out ≡ length l.initial.out) × Going l.initial.out 0 (6 * l.r) l.out (rows_from l.r (l.count - l.r) (drop l.p l.text)) (rows_from 0 l.count (drop l.at l.text))
-
-abbrev pub decreases-loop-r : goal.decreases-loop-r
-decreases-loop-r l = l.count - l.r
+invariant-loop-r l = (l.p ≤ length l.text) × (length l.out ≡ length l.initial.out) × Going l.initial.out 0 (6 * l.r) l.out (rows_from l.r (l.count - l.r) (drop l.p l.text)) (rows_from 0 l.count (drop l.at l.text))

@@ -6,7 +6,4 @@ use Rattle.sheet_read.proofs.Storing.{Going}
 use Rattle.sheet_read.proofs.words.Given as goal
 
 abbrev pub invariant-loop-i : goal.invariant-loop-i
-invariant-loop-i l = (l.p ≤ length l.text) × (l.i ≤ l.count) × (length l.out ≡ length l.initial.out) × Going l.initial.out l.to l.i l.out (words_from (l.i + 1) (l.count - l.i) (drop l.p l.text)) (words_from 1 l.count (drop l.at l.text))
-
-abbrev pub decreases-loop-i : goal.decreases-loop-i
-decreases-loop-i l = l.count - l.i
+invariant-loop-i l = (l.p ≤ length l.text) × (length l.out ≡ length l.initial.out) × Going l.initial.out l.to l.i l.out (words_from (l.i + 1) (l.count - l.i) (drop l.p l.text)) (words_from 1 l.count (drop l.at l.text))

@@ -1,12 +1,8 @@
 -- `sheet_written::check_rows` meets its contract. Assumes nothing.
 use mathlib.Core.Path.{refl, sym, ◌∙◌}
-use native.Mathlib.Nat.{sub-zero}
 use Rattle.table.proofs.Different.{refusal_counts}
 use Rattle.sheet_written.proofs.Faults.{next_row, this_row, no_row_left}
 use Rattle.sheet_written.proofs.check_rows.Goals as goal
-
-pub loop-row-init : goal.loop-row-init
-loop-row-init c = rw sub-zero
 
 pub returns-in-Err : goal.returns-in-Err
 returns-in-Err c = sym (this_row _ _ _ c.loop-row-test.true c.in-Err.ensures (refusal_counts c.in-Err.why)) ∙ c.loop-row.invariant

@@ -1,14 +1,11 @@
 -- `sheet_written::put_rows` meets its contract. Assumes nothing.
 use Prim.Native.Nat.{◌+◌, ◌-◌}
-use mathlib.Core.Path.{refl, ◌∙◌}
+use mathlib.Core.Path.{◌∙◌}
 use native.Mathlib.Omega.{arith}
 use Rattle.sheet.specs.Sheet.{row_text, rows_text}
-use Rattle.sheet.proofs.Writing.{left_all, left_room, left_less, left_none}
-use Rattle.sheet_written.proofs.Lines.{rows_all, rows_go, rows_none}
+use Rattle.sheet.proofs.Writing.{left_room, left_less, left_none}
+use Rattle.sheet_written.proofs.Lines.{rows_go, rows_none}
 use Rattle.sheet_written.proofs.put_rows.Goals as goal
-
-pub loop-r-init : goal.loop-r-init
-loop-r-init c = (omega arith, refl, left_all _ _ (rows_all _ _))
 
 pub put_row-p-requires : goal.put_row-p-requires
 put_row-p-requires c = let v = c.loop-r.invariant in let q = c.requires in
@@ -19,9 +16,6 @@ pub loop-r-preserved : goal.loop-r-preserved
 loop-r-preserved c = let v = c.loop-r.invariant in
     let t = c.args.table.now in let n = c.args.n in let r = c.loop-r.r in
     (omega arith, c.put_row-p.auto.out ∙ v.1, left_less v.2 (row_text t r) (rows_text (n - (r + 1)) t (r + 1)) (rows_go t n r c.loop-r-test.true) c.put_row-p.ensures)
-
-pub shape_of-out : goal.shape_of-out
-shape_of-out c = c.loop-r.invariant.1
 
 pub returns : goal.returns
 returns c = left_none c.loop-r.invariant.2 (rows_none _ _ _ c.loop-r-test.false)

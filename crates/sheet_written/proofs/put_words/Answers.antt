@@ -1,17 +1,11 @@
 -- `sheet_written::put_words` meets its contract. Assumes nothing.
 use Prim.Native.Nat.{◌+◌, ◌-◌}
-use mathlib.Core.Path.{refl, ◌∙◌}
+use mathlib.Core.Path.{◌∙◌}
 use native.Mathlib.Omega.{arith}
 use Rattle.sheet.specs.Sheet.{decimal, line_of, word_key, words_text}
-use Rattle.sheet.proofs.Writing.{left_all, left_room, left_less, left_none}
-use Rattle.sheet_written.proofs.Lines.{words_all, words_go, words_none}
+use Rattle.sheet.proofs.Writing.{left_room, left_less, left_none}
+use Rattle.sheet_written.proofs.Lines.{words_go, words_none}
 use Rattle.sheet_written.proofs.put_words.Goals as goal
-
-pub loop-k-init : goal.loop-k-init
-loop-k-init c = (omega arith, omega arith, refl, left_all _ _ (words_all _ _ _))
-
-pub word_at-requires : goal.word_at-requires
-word_at-requires c = let p = c.requires in (p.0, p.1, omega arith)
 
 pub put_word-p-requires : goal.put_word-p-requires
 put_word-p-requires c = let v = c.loop-k.invariant in
@@ -26,9 +20,6 @@ loop-k-preserved c = let v = c.loop-k.invariant in
       c.put_word-p.auto.out ∙ v.2,
       left_less v.3 (line_of (word_key k) (decimal c.word_at.result)) (words_text (u + 1 - (k + 1)) t r (k + 1)) (words_go t r u k (omega arith) c.word_at.ensures) c.put_word-p.ensures,
     )
-
-pub shape_of-out : goal.shape_of-out
-shape_of-out c = c.loop-k.invariant.2
 
 pub returns : goal.returns
 returns c = left_none c.loop-k.invariant.3 (words_none _ _ _ _ (omega arith))

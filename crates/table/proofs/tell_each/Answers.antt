@@ -11,7 +11,7 @@ returns-in-Err c = let b = c.in-Err.ensures in let t = c.args.table.now in
 
 pub note-requires : goal.note-requires
 note-requires c = let I = c.loop-row.invariant in let N = I.0 in
-    (omega (arith, N.rows), N.deep, room c.args.table.now c.loop-row.row c.in-Ok.kind N c.in-Ok.ensures.0 c.in-Ok.ensures.1, few c.args.table.now c.loop-row.row N)
+    (omega (arith, N.rows), room c.args.table.now c.loop-row.row c.in-Ok.kind N c.in-Ok.ensures.0 c.in-Ok.ensures.1, few c.args.table.now c.loop-row.row N)
 
 pub loop-row-preserved : goal.loop-row-preserved
 loop-row-preserved c = let I = c.loop-row.invariant in

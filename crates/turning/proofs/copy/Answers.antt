@@ -4,11 +4,8 @@ use native.Mathlib.Omega.{arith}
 use mathlib.Core.Path.{◌∙◌}
 use Rattle.turning.proofs.copy.Goals as goal
 
-pub put_aside-requires : goal.put_aside-requires
-put_aside-requires c = (c.requires.0, c.requires.1.source, c.requires.2, c.requires.3)
-
 pub put_back-requires : goal.put_back-requires
-put_back-requires c = (omega (arith, c.requires.1.target, few_rows _ c.requires.0), c.requires.2, c.put_aside.auto.aside ∙ c.requires.3)
+put_back-requires c = omega (arith, c.requires.1.target, few_rows _ c.requires.0)
 
 pub returns : goal.returns
 returns c = c.put_back.ensures ∙ back_is_copied _ _ _ _ _ _ c.put_aside.ensures

@@ -1,10 +1,6 @@
 use mathlib.Core.Path.{◌≡◌}
 use Rattle.table.specs.Counted.{rows_of}
-use Prim.Native.Nat.{◌-◌, ◌≤◌}
 use Rattle.turning.proofs.count_rows.Given as goal
 
 abbrev pub invariant-loop-r : goal.invariant-loop-r
-invariant-loop-r l = (l.r ≤ l.n) × (l.count ≡ rows_of l.kind l.table l.r)
-
-abbrev pub decreases-loop-r : goal.decreases-loop-r
-decreases-loop-r l = l.n - l.r
+invariant-loop-r l = l.count ≡ rows_of l.kind l.table l.r

@@ -5,22 +5,22 @@ use mathlib.Core.Path.{◌∙◌, ap}
 use Rattle.turning.proofs.first_turn.Goals as goal
 
 pub overflow_add-l : goal.overflow_add-l
-overflow_add-l c = let f = first_inside _ _ _ c.requires.0 in omega (arith, f.0, f.1, f.2, f.3)
+overflow_add-l c = let f = first_inside _ _ _ c.requires in omega (arith, f.0, f.1, f.2, f.3)
 
 pub overflow_add-l-2 : goal.overflow_add-l-2
-overflow_add-l-2 c = let f = first_inside _ _ _ c.requires.0 in omega (arith, f.0, f.1, f.2, f.3)
+overflow_add-l-2 c = let f = first_inside _ _ _ c.requires in omega (arith, f.0, f.1, f.2, f.3)
 
 pub overflow_add-l-3 : goal.overflow_add-l-3
-overflow_add-l-3 c = let f = first_inside _ _ _ c.requires.0 in omega (arith, f.0, f.1, f.2, f.3)
+overflow_add-l-3 c = let f = first_inside _ _ _ c.requires in omega (arith, f.0, f.1, f.2, f.3)
 
 pub overflow_sub-first : goal.overflow_sub-first
-overflow_sub-first c = let f = first_inside _ _ _ c.requires.0 in omega (arith, f.0)
+overflow_sub-first c = let f = first_inside _ _ _ c.requires in omega (arith, f.0)
 
 pub copy-requires : goal.copy-requires
-copy-requires c = (c.requires.0.right, args_to_args _ _ _ c.requires.0, c.requires.1, c.requires.2)
+copy-requires c = (c.requires.right, args_to_args _ _ _ c.requires)
 
 pub set_row-requires : goal.set_row-requires
-set_row-requires c = let f = first_inside _ _ _ c.requires.0 in (omega (arith, f.0, f.1, f.2, f.3), c.copy.auto.words ∙ c.requires.1)
+set_row-requires c = let f = first_inside _ _ _ c.requires in omega (arith, f.0, f.1, f.2, f.3)
 
 pub returns : goal.returns
-returns c = c.set_row.ensures ∙ ap (set_row c.args.l c.args.index) c.copy.ensures ∙ first_turn_is _ _ _ c.requires.0 _ _
+returns c = c.set_row.ensures ∙ ap (set_row c.args.l c.args.index) c.copy.ensures ∙ first_turn_is _ _ _ c.requires _ _

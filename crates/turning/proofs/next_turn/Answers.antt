@@ -17,10 +17,10 @@ pub overflow_add-l : goal.overflow_add-l
 overflow_add-l c = let f = first_inside _ _ _ c.requires.0 in omega (arith, f.0, f.1, f.2, f.3)
 
 pub copy-requires : goal.copy-requires
-copy-requires c = (c.requires.0.right, nexts_to_args _ _ _ c.requires.0 _ c.requires.1, c.requires.2, c.requires.3)
+copy-requires c = (c.requires.0.right, nexts_to_args _ _ _ c.requires.0 _ c.requires.1)
 
 pub set_row-requires : goal.set_row-requires
-set_row-requires c = let f = first_inside _ _ _ c.requires.0 in (omega (arith, f.0, f.1, f.2, f.3), c.copy.auto.words ∙ c.requires.2)
+set_row-requires c = let f = first_inside _ _ _ c.requires.0 in omega (arith, f.0, f.1, f.2, f.3)
 
 pub returns : goal.returns
 returns c = c.set_row.ensures ∙ ap (set_row c.args.l c.args.index) c.copy.ensures ∙ next_turn_is _ _ _ c.requires.0 _ _ c.requires.1 _

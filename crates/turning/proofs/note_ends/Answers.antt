@@ -7,25 +7,19 @@ use Prim.Native.Nat.{ℕ}
 use Rattle.turning.proofs.note_ends.Goals as goal
 
 pub loop-r-init : goal.loop-r-init
-loop-r-init c = (omega arith, none_noted _ c.requires.0 _ _ c.requires.1 (length-replicate {A = ℕ} 512 0))
+loop-r-init c = (none_noted _ c.requires.0 _ _ c.requires.1 (length-replicate {A = ℕ} 512 0))
 
 pub kind_at-kind-requires : goal.kind_at-kind-requires
 kind_at-kind-requires c = row_asked _ c.requires.0 _ (omega (arith, c.loop-r-test.true, c.requires.1))
 
 pub body_after-next-requires : goal.body_after-next-requires
-body_after-next-requires c = (λ e. end_inside _ c.requires.0 _ _ _ c.loop-r.invariant.1 (omega (arith, c.loop-r-test.true, c.requires.1)) (sym c.kind_at-kind.ensures ∙ e), c.loop-r.invariant.1.long)
-
-pub offset_bounds-notes-note_at : goal.offset_bounds-notes-note_at
-offset_bounds-notes-note_at c = omega (arith, note_inside _ c.requires.0 _ _ _ c.loop-r.invariant.1 (omega (arith, c.loop-r-test.true, c.requires.1)) _ _ c.kind_at-kind.ensures c.note_at.ensures)
+body_after-next-requires c = (λ e. end_inside _ c.requires.0 _ _ _ c.loop-r.invariant (omega (arith, c.loop-r-test.true, c.requires.1)) (sym c.kind_at-kind.ensures ∙ e), c.loop-r.invariant.long)
 
 pub bounds-notes-note_at : goal.bounds-notes-note_at
-bounds-notes-note_at c = omega (arith, note_inside _ c.requires.0 _ _ _ c.loop-r.invariant.1 (omega (arith, c.loop-r-test.true, c.requires.1)) _ _ c.kind_at-kind.ensures c.note_at.ensures, c.loop-r.invariant.1.long)
-
-pub loop-r-smaller : goal.loop-r-smaller
-loop-r-smaller c = omega (arith, c.loop-r-test.true)
+bounds-notes-note_at c = omega (arith, note_inside _ c.requires.0 _ _ _ c.loop-r.invariant (omega (arith, c.loop-r-test.true, c.requires.1)) _ _ c.kind_at-kind.ensures c.note_at.ensures, c.loop-r.invariant.long)
 
 pub loop-r-preserved : goal.loop-r-preserved
-loop-r-preserved c = (omega (arith, c.loop-r-test.true), one_noted _ c.requires.0 _ _ _ c.loop-r.invariant.1 (omega (arith, c.loop-r-test.true, c.requires.1)) _ _ _ _ c.kind_at-kind.ensures c.body_after-next.ensures c.note_at.ensures c.note_of.ensures)
+loop-r-preserved c = (one_noted _ c.requires.0 _ _ _ c.loop-r.invariant (omega (arith, c.loop-r-test.true, c.requires.1)) _ _ _ _ c.kind_at-kind.ensures c.body_after-next.ensures c.note_at.ensures c.note_of.ensures)
 
 pub returns : goal.returns
-returns c = all_noted _ c.requires.0 _ _ _ c.loop-r.invariant.1 (omega (arith, c.loop-r-test.false, c.requires.1))
+returns c = all_noted _ c.requires.0 _ _ _ c.loop-r.invariant (omega (arith, c.loop-r-test.false, c.requires.1))

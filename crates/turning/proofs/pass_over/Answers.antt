@@ -16,7 +16,7 @@ pub overflow_sub-end : goal.overflow_sub-end
 overflow_sub-end c = let f = first_inside _ _ _ c.requires.0 in omega (arith, f.0, f.1, f.2, f.3, c.requires.1)
 
 pub copy-requires : goal.copy-requires
-copy-requires c = (c.requires.0.right, args_to_nexts _ _ _ c.requires.0 _ c.requires.1, c.requires.2, c.requires.3)
+copy-requires c = (c.requires.0.right, args_to_nexts _ _ _ c.requires.0 _ c.requires.1)
 
 pub returns : goal.returns
 returns c = c.copy.ensures ∙ passing_is _ _ _ c.requires.0 _ _ c.requires.1

@@ -1,10 +1,6 @@
-use Rattle.turning.specs.Words.{Long, env_of, placed}
+use Rattle.turning.specs.Words.{env_of, placed}
 use mathlib.Core.Path.{◌≡◌}
-use Prim.Native.Nat.{◌-◌, ◌≤◌}
 use Rattle.turning.proofs.put_back.Given as goal
 
 abbrev pub invariant-loop-j : goal.invariant-loop-j
-invariant-loop-j l = (l.j ≤ l.k) × Long l.words × (env_of l.words ≡ placed l.to l.j (env_of l.aside) (env_of l.initial.words))
-
-abbrev pub decreases-loop-j : goal.decreases-loop-j
-decreases-loop-j l = l.k - l.j
+invariant-loop-j l = env_of l.words ≡ placed l.to l.j (env_of l.aside) (env_of l.initial.words)

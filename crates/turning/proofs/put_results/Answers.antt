@@ -6,19 +6,13 @@ use native.Mathlib.Omega.{arith}
 use Rattle.turning.proofs.put_results.Goals as goal
 
 pub loop-r-init : goal.loop-r-init
-loop-r-init c = (omega arith, none_counted _ _, refl, results_start _ _ _ _)
+loop-r-init c = (none_counted _ _, refl, results_start _ _ _ _)
 
 pub put_result-k-requires : goal.put_result-k-requires
-put_result-k-requires c = (c.requires.0, omega (arith, c.loop-r-test.true, c.requires.1), c.requires.2, (let f = rows_few 8 c.args.table.now c.loop-r.r in omega (arith, c.loop-r.invariant.1, c.loop-r-test.true, c.requires.1, few_rows _ c.requires.0)), λ e. result_inside _ _ _ _ _ c.loop-r-test.true c.loop-r.invariant.1 (omega (arith, c.requires.3, c.loop-r.invariant.2)) e)
-
-pub loop-r-smaller : goal.loop-r-smaller
-loop-r-smaller c = omega (arith, c.loop-r-test.true)
+put_result-k-requires c = (c.requires.0, omega (arith, c.loop-r-test.true, c.requires.1), (let f = rows_few 8 c.args.table.now c.loop-r.r in omega (arith, c.loop-r.invariant.0, c.loop-r-test.true, c.requires.1, few_rows _ c.requires.0)), λ e. result_inside _ _ _ _ _ c.loop-r-test.true c.loop-r.invariant.0 (omega (arith, c.requires.2, c.loop-r.invariant.1)) e)
 
 pub loop-r-preserved : goal.loop-r-preserved
-loop-r-preserved c = (omega (arith, c.loop-r-test.true), one_counted _ _ _ _ _ _ c.loop-r.invariant.1 refl c.put_result-k.ensures.0, c.put_result-k.auto.results ∙ c.loop-r.invariant.2, one_result _ _ _ _ _ _ _ _ c.loop-r-test.true c.put_result-k.ensures.0 c.put_result-k.ensures.1 ∙ c.loop-r.invariant.3)
-
-pub shape_of-results : goal.shape_of-results
-shape_of-results c = c.loop-r.invariant.2
+loop-r-preserved c = (one_counted _ _ _ _ _ _ c.loop-r.invariant.0 refl c.put_result-k.ensures.0, c.put_result-k.auto.results ∙ c.loop-r.invariant.1, one_result _ _ _ _ _ _ _ _ c.loop-r-test.true c.put_result-k.ensures.0 c.put_result-k.ensures.1 ∙ c.loop-r.invariant.2)
 
 pub returns : goal.returns
-returns c = sym (no_results_left _ _ _ _ _ _ c.loop-r-test.false) ∙ c.loop-r.invariant.3
+returns c = sym (no_results_left _ _ _ _ _ _ c.loop-r-test.false) ∙ c.loop-r.invariant.2

@@ -4,11 +4,8 @@ use Rattle.reading.specs.Reading.{results_from}
 use lib.Seq.{sets}
 use lib.ListN.{length}
 use mathlib.Core.Path.{◌≡◌}
-use Prim.Native.Nat.{◌-◌, ◌≤◌}
+use Prim.Native.Nat.{◌-◌}
 use Rattle.turning.proofs.put_results.Given as goal
 
 abbrev pub invariant-loop-r : goal.invariant-loop-r
-invariant-loop-r l = (l.r ≤ l.n) × (l.k ≡ rows_of 8 l.table l.r) × (length l.results ≡ length l.initial.results) × (sets l.results l.k (results_from (l.n - l.r) l.table (env_of l.words) l.r) ≡ sets l.initial.results 0 (results_from l.n l.table (env_of l.words) 0))
-
-abbrev pub decreases-loop-r : goal.decreases-loop-r
-decreases-loop-r l = l.n - l.r
+invariant-loop-r l = (l.k ≡ rows_of 8 l.table l.r) × (length l.results ≡ length l.initial.results) × (sets l.results l.k (results_from (l.n - l.r) l.table (env_of l.words) l.r) ≡ sets l.initial.results 0 (results_from l.n l.table (env_of l.words) 0))

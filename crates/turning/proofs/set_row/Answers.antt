@@ -3,4 +3,4 @@ use Rattle.turning.proofs.Rows.{word_is_set}
 use Rattle.turning.proofs.set_row.Goals as goal
 
 pub returns : goal.returns
-returns c = word_is_set c.args.words.now c.args.r c.args.word (omega (arith, c.requires.0, c.requires.1))
+returns c = word_is_set c.args.words.now c.args.r c.args.word (omega arith)

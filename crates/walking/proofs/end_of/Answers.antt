@@ -4,6 +4,3 @@ use Rattle.walking.proofs.end_of.Goals as goal
 
 pub bounds-notes-l : goal.bounds-notes-l
 bounds-notes-l c = let f = few_rows _ c.requires.0 in let l = c.requires.2 in omega (arith, c.requires.1.long)
-
-pub returns : goal.returns
-returns c = c.requires.1.end _ c.requires.2 c.requires.3

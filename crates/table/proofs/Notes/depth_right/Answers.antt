@@ -2,13 +2,13 @@
 use borrow.Author.Tests.{ne_eqb}
 use Rattle.table.specs.declared.Kind.TheVariants.{For}
 use Rattle.table.specs.Check.{depth_right}
-use Rattle.table.proofs.Loops.{open_length}
+use Rattle.table.proofs.Opened.{open_length, not_full}
 use Rattle.table.proofs.Different.{other_kind}
 use Rattle.table.proofs.Notes.depth_right.Goals as goal
 
 pub returns-in-For : goal.returns-in-For
 unfolding depth_right
-returns-in-For c = λ t r k l. rw (← k, c.in-For.is, ← l, open_length c.args.self.now.loops.entries c.args.self.now.loops.depth)
+returns-in-For c = λ t r k l. let d = c.args.self.now.loops in rw (← k, c.in-For.is, ← l, open_length d.entries d.depth, c.is_full.ensures) (not_full d.depth)
 
 pub returns-in_default : goal.returns-in_default
 unfolding depth_right

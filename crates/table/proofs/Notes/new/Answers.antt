@@ -3,19 +3,19 @@ use native.Mathlib.Omega.{arith}
 use mathlib.Core.Path.{refl}
 use lib.ListN.{length-replicate}
 use Rattle.table.specs.Scan.{stack_at}
-use Rattle.table.specs.Kept.{open_loops, nowhere}
+use Rattle.table.specs.Kept.{nowhere}
+use Rattle.table.proofs.Opened.{open_none}
 use Rattle.table.proofs.Notes.new.Goals as goal
 
 pub returns : goal.returns
-unfolding open_loops stack_at
+unfolding stack_at
 returns c = λ t w s.
     record {
       whole = w;
       rows = s;
       below = omega arith;
-      deep = omega arith;
       long = length-replicate 512 nowhere;
-      loops = refl;
+      loops = open_none _ _ c.none.ensures;
       before = refl;
       home_of = λ k l. absurd (omega arith);
       body_of_lem = λ k l. absurd (omega arith);

@@ -4,4 +4,4 @@ use Rattle.table.proofs.Noting.{noted_more}
 use Rattle.table.proofs.Notes.note.Goals as goal
 
 pub returns : goal.returns
-returns c = λ t N l k. (noted_more t c.args.r c.args.kind c.behind-self.result N l k c.home-home.ensures c.inner-body.ensures c.behind-self.ensures.0 c.behind-self.ensures.1, refl)
+returns c = λ t N l k. (noted_more t c.args.r c.args.kind c.behind-self.result N l k c.home-home.ensures c.inner-body.ensures c.behind-self.ensures, refl)

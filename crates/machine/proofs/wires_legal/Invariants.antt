@@ -1,9 +1,0 @@
-use Rattle.state.specs.Legal.{legal_wire}
-use Rattle.graph.specs.Graph.{wire_count}
-use Rattle.graph.specs.Below.{every_from, every}
-use mathlib.Core.Path.{◌≡◌}
-use Prim.Native.Nat.{◌-◌, ◌≤◌}
-use Rattle.machine.proofs.wires_legal.Given as goal
-
-abbrev pub invariant-loop-w : goal.invariant-loop-w
-invariant-loop-w l = (l.w ≤ l.wires) × (l.wires ≡ wire_count l.graph) × (every_from (l.wires - l.w) l.w (legal_wire l.graph l.state) ≡ every (wire_count l.graph) (legal_wire l.graph l.state))

@@ -1,7 +1,0 @@
--- `table::OpenLoops::outward` meets its contract. One entry fewer. Assumes nothing.
-use mathlib.Core.Path.{sym}
-use Rattle.table.proofs.Loops.{open_outward}
-use Rattle.table.proofs.OpenLoops.outward.Goals as goal
-
-pub returns : goal.returns
-returns c = (rw c.saturating_sub.ensures (sym (open_outward _ _)), c.saturating_sub.ensures)
