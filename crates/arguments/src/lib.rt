@@ -1,9 +1,13 @@
-// What a command is asked: its arguments, read one by one. The table is the first that is no option; the others are input words, kept in lent words.
+// What a command is asked: its arguments, read one by one. The table is the first that is no option; the others are input words.
 // The arguments of a command stand in one text, each with a byte 0 behind it, which no argument can hold: so a command is the same whether it comes
 // from the system or from a file of cases. Argument 0 is the command's name.
 #![tactic(auto)]
 
-ghost use Rattle.std.specs.Prelude.{◌≤◌, ◌<◌, length};
+use arrayvec::ArrayVec;
+use std::fmt;
+
+// No table has more inputs.
+pub type Inputs = ArrayVec<u32, 512>;
 
 // Argument k, counted from 0; past the last, nothing.
 pub fn argument(line: &[u8], k: usize) -> &[u8] {
@@ -12,62 +16,65 @@ pub fn argument(line: &[u8], k: usize) -> &[u8] {
 
 // Whether the usage is asked for: by no argument, or by --help in place of a command or behind one.
 pub fn asks_help(line: &[u8]) -> bool {
-    if line.len() == 0 {
-        return true;
-    }
-    if text::same(argument(line, 0), b"--help") {
-        return true;
-    }
-    text::same(argument(line, 1), b"--help")
+    line.is_empty()
+        || argument(line, 0) == b"--help".as_slice()
+        || argument(line, 1) == b"--help".as_slice()
 }
 
-// What an option waits for in the next argument.
-
-const NO_MORE: u32 = 0;
-
-const A_FILE: u32 = 1;
-
-const A_NUMBER: u32 = 2;
-
-const SOME_TURNS: u32 = 3;
-
 // What can be wrong with an argument.
+#[derive(Clone, Copy, Debug, PartialEq, Eq)]
+pub enum Problem {
+    Table,
+    Option,
+    Word,
+    Inputs,
+    Value,
+    Allowance,
+    Orders,
+    Alone,
+    Trace,
+    Unread,
+    Unturned,
+    Unrun,
+}
 
-pub const TABLE: u32 = 1;
+impl fmt::Display for Problem {
+    fn fmt<W: fmt::Write>(&self, f: &mut fmt::Formatter<W>) -> fmt::Result {
+        f.write_str(match self {
+            Problem::Table => "no table is named",
+            Problem::Option => "there is no such option",
+            Problem::Word => "an input is a decimal number, -2,147,483,648 to 4,294,967,295",
+            Problem::Inputs => "no table has so many inputs",
+            Problem::Value => "something is to follow this option",
+            Problem::Allowance => "an allowance is a number, 0 to 18,446,744,073,709,551,615",
+            Problem::Orders => "--order and --reverse do not go together",
+            Problem::Alone => "this command takes a table and nothing else",
+            Problem::Trace => "a drawing has no trace",
+            Problem::Unread => "--turns and --both go with run and read, not with a drawing",
+            Problem::Unturned => "--turns goes with read, and with run where --both is given",
+            Problem::Unrun => {
+                "a reading has no firings: it takes input words, --turns and --signed"
+            }
+        })
+    }
+}
 
-pub const OPTION: u32 = 2;
-
-pub const WORD: u32 = 3;
-
-pub const INPUTS: u32 = 4;
-
-pub const VALUE: u32 = 5;
-
-pub const ALLOWANCE: u32 = 6;
-
-pub const ORDERS: u32 = 7;
-
-pub const ALONE: u32 = 8;
-
-pub const TRACE: u32 = 9;
-
-pub const UNREAD: u32 = 10;
-
-pub const UNTURNED: u32 = 11;
-
-pub const UNRUN: u32 = 12;
+// What is wrong first, and the argument that it is about.
+#[derive(Clone, Copy, Debug)]
+pub struct Wrong<'a> {
+    pub problem: Problem,
+    pub argument: &'a [u8],
+}
 
 // The allowance of firings and that of turns where none is asked: more than any rehearsal of a station takes, and over in minutes.
 pub const USUAL: u64 = 1000000000;
 
-// `table` and `order` are numbers of arguments, 0 where none names the file; `run` says that a run was asked for by an input or an option,
-// `steered` that an option was given which a run alone takes, and `turned` that --turns was. `signed` says that words are to be told with a sign.
-// `problem` is the first that is wrong, and `at` its argument.
-#[derive(Clone, Copy)]
-pub struct Asked {
-    pub table: usize,
-    pub order: usize,
-    pub inputs: usize,
+// `run` says that a run was asked for by an input or an option, `steered` that an option was given which a run alone takes, and `turned` that
+// --turns was. `signed` says that words are to be told with a sign.
+#[derive(Clone, Copy, Debug)]
+pub struct Asked<'a> {
+    pub table: &'a [u8],
+    pub order: Option<&'a [u8]>,
     pub allowance: u64,
     pub turns: u64,
     pub reverse: bool,
@@ -77,297 +84,206 @@ pub struct Asked {
     pub steered: bool,
     pub turned: bool,
     pub signed: bool,
-    pub waits: u32,
-    pub problem: u32,
-    pub at: usize,
 }
 
-fn nothing() -> Asked
-    ensures { result.inputs ≤ 0 }
-{
-    Asked {
-        table: 0,
-        order: 0,
-        inputs: 0,
-        allowance: USUAL,
-        turns: USUAL,
-        reverse: false,
-        trace: false,
-        both: false,
-        run: false,
-        steered: false,
-        turned: false,
-        signed: false,
-        waits: NO_MORE,
-        problem: 0,
-        at: 0,
+// What an option waits for in the next argument.
+#[derive(Clone, Copy, PartialEq, Eq)]
+enum Awaited {
+    File,
+    Allowance,
+    Turns,
+}
+
+// The number of a text, where it is one.
+fn allowance(argument: &[u8]) -> Result<u64, Wrong<'_>> {
+    match text::read_number(argument) {
+        Ok(number) => Ok(number),
+        Err(_) => Err(Wrong {
+            problem: Problem::Allowance,
+            argument,
+        }),
     }
 }
 
-// The first problem is kept.
-pub fn wrong(given: Asked, problem: u32, k: usize) -> Asked
-    ensures { result.inputs ≤ given.inputs }
-{
-    let mut asked = given;
-    if asked.problem == 0 {
-        asked.problem = problem;
-        asked.at = k;
+// The word that an input is.
+fn word_of(argument: &[u8]) -> Option<u32> {
+    match argument.strip_prefix(b"-") {
+        Some(size) => word_below(size),
+        None => u32::try_from(text::read_number(argument).ok()?).ok(),
     }
-    asked
 }
 
-fn with_allowance(given: Asked, k: usize, arg: &[u8]) -> Asked
-    ensures { result.inputs ≤ given.inputs }
-{
-    let n = text::number(arg);
-    if n.problem != 0 {
-        return wrong(given, ALLOWANCE, k);
-    }
-    let mut asked = given;
-    asked.allowance = n.value;
-    asked.waits = NO_MORE;
-    asked
-}
-
-fn with_turns(given: Asked, k: usize, arg: &[u8]) -> Asked
-    ensures { result.inputs ≤ given.inputs }
-{
-    let n = text::number(arg);
-    if n.problem != 0 {
-        return wrong(given, ALLOWANCE, k);
-    }
-    let mut asked = given;
-    asked.turns = n.value;
-    asked.turned = true;
-    asked.waits = NO_MORE;
-    asked
-}
-
-fn with_order(given: Asked, k: usize) -> Asked
-    ensures { result.inputs ≤ given.inputs }
-{
-    let mut asked = given;
-    asked.order = k;
-    asked.waits = NO_MORE;
-    asked
-}
-
-fn waiting(given: Asked, k: usize, what: u32) -> Asked
-    ensures { result.inputs ≤ given.inputs }
-{
-    let mut asked = given;
-    asked.run = true;
-    asked.waits = what;
-    asked.at = k;
-    asked
-}
-
-// An option that a run alone takes.
-fn steering(given: Asked) -> Asked
-    ensures { result.inputs ≤ given.inputs }
-{
-    let mut asked = given;
-    asked.run = true;
-    asked.steered = true;
-    asked
-}
-
-fn reversed(given: Asked) -> Asked
-    ensures { result.inputs ≤ given.inputs }
-{
-    let mut asked = steering(given);
-    asked.reverse = true;
-    asked
-}
-
-fn traced(given: Asked) -> Asked
-    ensures { result.inputs ≤ given.inputs }
-{
-    let mut asked = steering(given);
-    asked.trace = true;
-    asked
-}
-
-fn doubled(given: Asked) -> Asked
-    ensures { result.inputs ≤ given.inputs }
-{
-    let mut asked = steering(given);
-    asked.both = true;
-    asked
-}
-
-// Words are told with a sign. That asks for no run.
-fn signed(given: Asked) -> Asked
-    ensures { result.inputs ≤ given.inputs }
-{
-    let mut asked = given;
-    asked.signed = true;
-    asked
-}
-
-fn option(given: Asked, k: usize, arg: &[u8]) -> Asked
-    ensures { result.inputs ≤ given.inputs }
-{
-    if text::same(arg, b"--reverse") {
-        return reversed(given);
-    }
-    if text::same(arg, b"--trace") {
-        return traced(given);
-    }
-    if text::same(arg, b"--both") {
-        return doubled(given);
-    }
-    if text::same(arg, b"--signed") {
-        return signed(given);
-    }
-    if text::same(arg, b"--order") {
-        return waiting(steering(given), k, A_FILE);
-    }
-    if text::same(arg, b"--allowance") {
-        return waiting(steering(given), k, A_NUMBER);
-    }
-    if text::same(arg, b"--turns") {
-        return waiting(given, k, SOME_TURNS);
-    }
-    wrong(given, OPTION, k)
-}
-
-fn named(given: Asked, k: usize) -> Asked
-    ensures { result.inputs ≤ given.inputs }
-{
-    let mut asked = given;
-    asked.table = k;
-    asked
-}
-
-// The number of a text, where it is one and at most `most`; else past every word.
-fn number_to(text: &[u8], most: u64) -> u64 {
-    let n = text::number(text);
-    if n.problem != 0 {
-        return text::MOST_WORD + 1;
-    }
-    if most < n.value {
-        return text::MOST_WORD + 1;
-    }
-    n.value
-}
-
-// What follows a sign: the word below 0, or past every word.
-fn word_below(text: &[u8]) -> u64 {
-    let size = number_to(text, text::MOST_BELOW);
+// What follows a sign: the word below 0.
+fn word_below(size: &[u8]) -> Option<u32> {
+    let size = text::read_number(size).ok()?;
     if text::MOST_BELOW < size {
-        return size;
+        return None;
     }
-    word::negate(size as u32) as u64
-}
-
-// The word that an input is, or past every word where it is none.
-fn word_of(arg: &[u8]) -> u64 {
-    if 0 < arg.len() {
-        if arg[0] == b'-' {
-            return word_below(&arg[1..]);
-        }
-    }
-    number_to(arg, text::MOST_WORD)
-}
-
-// An input word is kept.
-fn input(given: Asked, k: usize, arg: &[u8], inputs: &mut [u32]) -> Asked
-    requires { given.inputs ≤ length inputs.old }
-    ensures { result.inputs ≤ length inputs.old }
-{
-    let n = given.inputs;
-    if inputs.len() <= n {
-        return wrong(given, INPUTS, k);
-    }
-    let word = word_of(arg);
-    if text::MOST_WORD < word {
-        return wrong(given, WORD, k);
-    }
-    inputs[n] = word as u32;
-    let mut asked = given;
-    asked.run = true;
-    asked.inputs = n + 1;
-    asked
+    Some(word::negate(size as u32))
 }
 
 // A number with a sign is no option, but an input.
-fn is_option(arg: &[u8]) -> bool {
-    if arg.len() < 2 {
-        return false;
+fn is_option(argument: &[u8]) -> bool {
+    match argument {
+        [b'-', letter, ..] => !letter.is_ascii_digit(),
+        _ => false,
     }
-    if arg[0] == b'-' {
-        return !text::is_digit(arg[1]);
-    }
-    false
 }
 
-// An argument that no option waits for.
-fn plain(given: Asked, k: usize, arg: &[u8], inputs: &mut [u32]) -> Asked
-    requires { given.inputs ≤ length inputs.old }
-    ensures { result.inputs ≤ length inputs.old }
-{
-    if is_option(arg) {
-        return option(given, k, arg);
+impl<'a> Asked<'a> {
+    fn new() -> Self {
+        Asked {
+            table: &[],
+            order: None,
+            allowance: USUAL,
+            turns: USUAL,
+            reverse: false,
+            trace: false,
+            both: false,
+            run: false,
+            steered: false,
+            turned: false,
+            signed: false,
+        }
     }
-    if given.table == 0 {
-        return named(given, k);
-    }
-    input(given, k, arg, inputs)
-}
 
-// Argument k, which is not 0.
-fn take(given: Asked, k: usize, arg: &[u8], inputs: &mut [u32]) -> Asked
-    requires { given.inputs ≤ length inputs.old }
-    ensures { result.inputs ≤ length inputs.old }
-{
-    let waits = given.waits;
-    match waits {
-        A_FILE => with_order(given, k),
-        A_NUMBER => with_allowance(given, k, arg),
-        SOME_TURNS => with_turns(given, k, arg),
-        _ => plain(given, k, arg, inputs),
+    // An option that a run alone takes.
+    fn steer(&mut self) {
+        self.run = true;
+        self.steered = true;
+    }
+
+    // An option, and what it waits for.
+    fn option(&mut self, argument: &'a [u8]) -> Result<Option<Awaited>, Wrong<'a>> {
+        match argument {
+            b"--reverse" => {
+                self.steer();
+                self.reverse = true;
+            }
+            b"--trace" => {
+                self.steer();
+                self.trace = true;
+            }
+            b"--both" => {
+                self.steer();
+                self.both = true;
+            }
+            // That asks for no run.
+            b"--signed" => self.signed = true,
+            b"--order" => {
+                self.steer();
+                return Ok(Some(Awaited::File));
+            }
+            b"--allowance" => {
+                self.steer();
+                return Ok(Some(Awaited::Allowance));
+            }
+            b"--turns" => {
+                self.run = true;
+                return Ok(Some(Awaited::Turns));
+            }
+            _ => {
+                return Err(Wrong {
+                    problem: Problem::Option,
+                    argument,
+                });
+            }
+        }
+        Ok(None)
+    }
+
+    // What an option waits for.
+    fn value(&mut self, awaited: Awaited, argument: &'a [u8]) -> Result<(), Wrong<'a>> {
+        match awaited {
+            Awaited::File => self.order = Some(argument),
+            Awaited::Allowance => self.allowance = allowance(argument)?,
+            Awaited::Turns => {
+                self.turns = allowance(argument)?;
+                self.turned = true;
+            }
+        }
+        Ok(())
+    }
+
+    // An input word is kept.
+    fn input(&mut self, argument: &'a [u8], inputs: &mut Inputs) -> Result<(), Wrong<'a>> {
+        if inputs.is_full() {
+            return Err(Wrong {
+                problem: Problem::Inputs,
+                argument,
+            });
+        }
+        match word_of(argument) {
+            Some(word) => {
+                inputs.push(word);
+                self.run = true;
+                Ok(())
+            }
+            None => Err(Wrong {
+                problem: Problem::Word,
+                argument,
+            }),
+        }
+    }
+
+    // An argument behind the table that no option waits for; what it waits for itself.
+    fn plain(
+        &mut self,
+        argument: &'a [u8],
+        inputs: &mut Inputs,
+    ) -> Result<Option<Awaited>, Wrong<'a>> {
+        if is_option(argument) {
+            return self.option(argument);
+        }
+        self.input(argument, inputs)?;
+        Ok(None)
     }
 }
 
 // Every argument behind the command's name.
-pub fn read(line: &[u8], inputs: &mut [u32]) -> Asked
-    ensures { result.inputs ≤ length inputs.old }
-{
+pub fn read<'a>(line: &'a [u8], inputs: &mut Inputs) -> Result<Asked<'a>, Wrong<'a>> {
+    let mut asked = Asked::new();
+    let mut table = None;
+    let mut option = argument(line, 0);
+    let mut awaited = None;
     let last = text::marks(line, 0);
-    let mut asked = nothing();
-    let mut k: usize = 1;
-    while k < last {
-        asked = take(asked, k, argument(line, k), inputs);
-        k += 1;
+    for argument in line.split(|letter| *letter == 0).take(last).skip(1) {
+        if let Some(value) = awaited {
+            asked.value(value, argument)?;
+            awaited = None;
+        } else if table.is_none() && !is_option(argument) {
+            table = Some(argument);
+        } else {
+            awaited = asked.plain(argument, inputs)?;
+            option = argument;
+        }
     }
-    complete(asked)
+    if awaited.is_some() {
+        return Err(Wrong {
+            problem: Problem::Value,
+            argument: option,
+        });
+    }
+    complete(asked, table, argument(line, 0))
 }
 
 // What is wrong with all arguments together.
-fn complete(asked: Asked) -> Asked
-    ensures { result.inputs ≤ asked.inputs }
-{
-    if asked.waits != NO_MORE {
-        return wrong(asked, VALUE, asked.at);
+fn complete<'a>(
+    asked: Asked<'a>,
+    table: Option<&'a [u8]>,
+    command: &'a [u8],
+) -> Result<Asked<'a>, Wrong<'a>> {
+    if asked.reverse && asked.order.is_some() {
+        return Err(Wrong {
+            problem: Problem::Orders,
+            argument: command,
+        });
     }
-    if asked.reverse {
-        if asked.order != 0 {
-            return wrong(asked, ORDERS, 0);
-        }
+    match table {
+        Some(table) => Ok(Asked { table, ..asked }),
+        None => Err(Wrong {
+            problem: Problem::Table,
+            argument: command,
+        }),
     }
-    if asked.table == 0 {
-        return wrong(asked, TABLE, 0);
-    }
-    asked
-}
-
-// A problem in words.
-pub fn put_problem(out: &mut [u8], at: usize, problem: u32) -> usize
-    requires { at ≤ length out.old }
-    ensures { result ≤ length out.old }
-{
-    let problems =
-        b"nothing is wrong;no table is named;there is no such option;an input is a decimal number, -2,147,483,648 to 4,294,967,295;no table has so many inputs;something is to follow this option;an allowance is a number, 0 to 18,446,744,073,709,551,615;--order and --reverse do not go together;this command takes a table and nothing else;a drawing has no trace;--turns and --both go with run and read, not with a drawing;--turns goes with read, and with run where --both is given;a reading has no firings: it takes input words, --turns and --signed";
-    text::put(out, at, text::part(problems, problem as usize))
 }

@@ -1,55 +1,24 @@
-// The commands of rehearse on argument texts and two channels: answers go to `out`, refusals and complaints to `err`.
-// The last line of `out` is `refused` where a rule refused, `error` where a command, an argument or a file was wrong, and neither where all went well.
+// The commands of rehearse on argument texts and two channels: what they answer goes to one, refusals and complaints to the other.
+// The last line of the answers is `refused` where a rule refused, `error` where a command, an argument or a file was wrong, and neither where all went well.
 #![tactic(auto)]
 
-ghost use Rattle.std.specs.Prelude.{◌+◌, ◌*◌, ◌≤◌, ◌<◌, length};
-
-use arguments::Asked;
-use channels::Channels;
-use files::{DONE, ERROR, Got, REFUSED};
+use arguments::{Asked, Inputs, Problem, Wrong, argument};
+use channels::{Channels, Console};
+use drawn::{Graph, Names, State, View};
+use files::{Stop, Words};
+use readings::{Held, Reading, Verdict};
+use refusal::{Refusal, Refused};
+use run::Ran;
 use std::io;
+use std::io::Write;
 use std::rt::Files;
-use table::Clause;
+use table::{Broken, Clause};
+use text::Page;
+use told::RowKind;
 use traced::How;
 
-// The commands on a table.
-
-const CHECK: u32 = 1;
-
-const LOWER: u32 = 2;
-
-const SHEET: u32 = 3;
-
-const TABLE: u32 = 4;
-
-const RUN: u32 = 5;
-
-const DRAW: u32 = 6;
-
-const READ: u32 = 7;
-
-const LENGTH: u32 = 1;
-
-const SPARE: u32 = 3;
-
-const ROOM: u32 = 10;
-
-// No line is behind it.
-const ANY_LINE: u64 = 18446744073709551615;
-
-// What is to be done, and where it is told.
-#[derive(Clone, Copy)]
-struct Job {
-    command: u32,
-    out: i32,
-    err: i32,
-    asked: Asked,
-}
-
-fn usage<R: Channels>(rt: &R, to: i32) -> io::Result<()> {
-    rt.send(
-        to,
-        b"rehearse check TABLE                      whether a loop table is right; if not, what to mend: the rule, the row, the clause
+const USAGE: &[u8] =
+    b"rehearse check TABLE                      whether a loop table is right; if not, what to mend: the rule, the row, the clause
 rehearse run TABLE INPUT.. [OPTION..]     runs a table on its input words
 rehearse read TABLE INPUT.. [OPTION..]    reads a table on its input words, row by row, without its graph
 rehearse lower TABLE                      the words of a table's graph, with what they say as comments
@@ -64,747 +33,467 @@ Of read, and of run with --both: --turns N, the most turns of loops, 1,000,000,0
 Of run, read and draw: --signed, words are told with their sign, 4,294,967,295 as -1.
 A table is a file of decimal words, six to a row; # starts a comment. A sheet, which starts with rows=, does for a table everywhere.
 An input, and in a table word a of a CONST, may be below 0, down to -2,147,483,648.
-",
-    )
+";
+
+// The commands on a table.
+#[derive(Clone, Copy, Debug, PartialEq, Eq)]
+enum Command {
+    Check,
+    Lower,
+    Sheet,
+    Table,
+    Run,
+    Draw,
+    Read,
 }
 
-// Refusals of a table.
-
-fn put_refused(out: &mut [u8], path: &[u8], table: &[u32], number: u32) -> usize
-    ensures { result ≤ length out.old }
-{
-    if number == ROOM {
-        let counts = counting::count_table(table);
-        let four = [counts.nodes, counts.wires, counts.starts, counts.results];
-        return refused::put_room(out, path, four);
+impl Command {
+    fn named(name: &[u8]) -> Option<Command> {
+        match name {
+            b"check" => Some(Command::Check),
+            b"lower" => Some(Command::Lower),
+            b"sheet" => Some(Command::Sheet),
+            b"table" => Some(Command::Table),
+            b"run" => Some(Command::Run),
+            b"draw" => Some(Command::Draw),
+            b"read" => Some(Command::Read),
+            _ => None,
+        }
     }
-    let clause = table::tell_rows(table);
-    refused::put_refusal(out, path, table, clause)
-}
 
-fn refuse<R: Channels>(
-    rt: &R,
-    err: i32,
-    path: &[u8],
-    text: &[u8],
-    table: &[u32],
-    number: u32,
-) -> u32 {
-    files::note_odd(rt, err, path, text, ANY_LINE);
-    let mut out = [0u8; 65536];
-    let n = put_refused(&mut out, path, table, number);
-    channels::tell(rt, err, &out[..n]);
-    REFUSED
-}
-
-fn put_accepted(out: &mut [u8], path: &[u8]) -> usize
-    ensures { result ≤ length out.old }
-{
-    let n = text::put(out, 0, path);
-    text::put(out, n, b": accepted by rules 1 to 10\n")
-}
-
-fn check<R: Channels>(rt: &R, job: Job, path: &[u8], text: &[u8], table: &[u32]) -> u32 {
-    let checked = lowering::check_table(table);
-    if checked.number != 0 {
-        return refuse(rt, job.err, path, text, table, checked.number);
+    // Whether it takes a table and nothing else.
+    fn is_alone(self) -> bool {
+        !matches!(self, Command::Run | Command::Draw | Command::Read)
     }
-    let mut out = [0u8; 65536];
-    let n = put_accepted(&mut out, path);
-    files::answer(rt, job.out, job.err, &out[..n])
+
+    // What it does not take of what was asked.
+    fn problem(self, asked: &Asked<'_>) -> Option<Problem> {
+        match self {
+            Command::Run if asked.turned && !asked.both => Some(Problem::Unturned),
+            Command::Run => None,
+            Command::Draw if asked.trace => Some(Problem::Trace),
+            Command::Draw if asked.both || asked.turned => Some(Problem::Unread),
+            Command::Draw => None,
+            Command::Read if asked.steered => Some(Problem::Unrun),
+            Command::Read => None,
+            _ if asked.run || asked.signed => Some(Problem::Alone),
+            _ => None,
+        }
+    }
 }
 
-// Sheets.
+// What a command is asked, if it takes that. To one that takes a table alone a second argument is no wrong input, but one too many.
+fn read_asked<'a>(
+    command: Command,
+    line: &'a [u8],
+    inputs: &mut Inputs,
+) -> Result<Asked<'a>, Wrong<'a>> {
+    let name = argument(line, 0);
+    match arguments::read(line, inputs) {
+        Ok(asked) => match command.problem(&asked) {
+            None => Ok(asked),
+            Some(problem) => Err(Wrong {
+                problem,
+                argument: name,
+            }),
+        },
+        Err(wrong) if wrong.problem == Problem::Word && command.is_alone() => Err(Wrong {
+            problem: Problem::Alone,
+            argument: name,
+        }),
+        Err(wrong) => Err(wrong),
+    }
+}
+
+// What is to be done, and where it is told.
+#[derive(Drop)]
+struct Job<'a, R> {
+    console: &'a Console<'a, R>,
+    command: Command,
+    asked: Asked<'a>,
+    inputs: &'a [u32],
+}
+
+// The first word of a row that its kind does not use and that is not 0.
+fn spare_word(table: &[u32], row: u32) -> u32 {
+    if row < 512 && (row as usize) < table.len() / 6 {
+        return table::spare_word(table, row).unwrap_or(0);
+    }
+    0
+}
 
 // The clause by which 1, 2 or 3 refuse a table; 4 to 9 do not look at it.
-fn sheet_clause(table: &[u32], number: u32, row: u32) -> Clause {
-    if number == LENGTH {
-        return table::tell_rows(table);
-    }
-    let mut word: u32 = 0;
-    if number == SPARE {
-        word = spare_of(table, row);
-    }
-    Clause {
-        number,
-        row,
-        fault: 0,
-        word,
-        body: 0,
-        args: 0,
-        nexts: 0,
+fn sheet_clause(table: &[u32], refused: Refused) -> Clause {
+    let row = refused.row;
+    match refused.why {
+        Refusal::Spare => Clause {
+            row,
+            broken: Broken::Spare(spare_word(table, row)),
+        },
+        Refusal::Length => match table::tell_rows(table) {
+            Err(clause) => clause,
+            Ok(()) => Clause {
+                row,
+                broken: Broken::Kind,
+            },
+        },
+        _ => Clause {
+            row,
+            broken: Broken::Kind,
+        },
     }
 }
 
-fn spare_of(table: &[u32], row: u32) -> u32 {
-    if row < 512 {
-        if (row as usize) < table.len() / 6 {
-            return table::spare_word(table, row);
+// The rows of a table: words, and number and kind as a comment.
+fn write_table<W: Write>(to: &mut W, table: &[u32]) -> io::Result<()> {
+    for (r, row) in table.chunks_exact(6).take(512).enumerate() {
+        if let Some((first, others)) = row.split_first() {
+            let kind = RowKind(*first);
+            let others = text::Words(others);
+            writeln!(to, "{first}{others} # row {r}, {kind}")?;
         }
     }
-    0
+    Ok(())
 }
 
-fn refuse_sheet<R: Channels>(
-    rt: &R,
-    err: i32,
-    path: &[u8],
-    text: &[u8],
-    table: &[u32],
-    number: u32,
-    row: u32,
-) -> u32 {
-    files::note_odd(rt, err, path, text, ANY_LINE);
-    let mut out = [0u8; 65536];
-    let n = refused::put_refusal(&mut out, path, table, sheet_clause(table, number, row));
-    channels::tell(rt, err, &out[..n]);
-    REFUSED
+fn write_accepted<W: Write>(to: &mut W, path: &[u8]) -> io::Result<()> {
+    to.write_all(path)?;
+    to.write_all(b": accepted by rules 1 to 10\n")
 }
 
-fn wide(x: u32) -> u64 {
-    x as u64
-}
-
-// A row's words, and its number and kind as a comment.
-fn put_row(out: &mut [u8], at: usize, table: &[u32], r: usize) -> usize
-    requires { (at ≤ length out.old) × (6 * r + 6 ≤ length table.now) × (r < 512) }
-    ensures { result ≤ length out.old }
-{
-    let from = 6 * r;
-    let a = text::put_number(out, at, wide(table[from]));
-    let b = text::put_words(out, a, &table[from + 1..from + 6]);
-    let c = text::put(out, b, b" # row");
-    let d = text::put_next(out, c, r as u64);
-    let e = text::put(out, d, b", ");
-    let f = told::put_kind(out, e, table[from]);
-    text::put_letter(out, f, b'\n')
-}
-
-fn put_table(out: &mut [u8], table: &[u32]) -> usize
-    ensures { result ≤ length out.old }
-{
-    let rows = least(table.len() / 6, 512);
-    let mut n: usize = 0;
-    let mut r: usize = 0;
-    while r < rows {
-        n = put_row(out, n, table, r);
-        r += 1;
+// A refusal of a table by rules 1 to 10.
+fn write_refused<W: Write>(to: &mut W, path: &[u8], table: &[u32], why: Refusal) -> io::Result<()> {
+    if why == Refusal::Room {
+        let counts = counting::count_table(table);
+        let four = [counts.nodes, counts.wires, counts.starts, counts.results];
+        return refused::write_room(to, path, four);
     }
-    n
-}
-
-fn least(a: usize, b: usize) -> usize
-    ensures { (result ≤ a) × (result ≤ b) }
-{
-    if a < b {
-        return a;
-    }
-    b
-}
-
-// The commands that write the table itself.
-fn is_written(command: u32) -> bool {
-    match command {
-        SHEET => true,
-        TABLE => true,
-        _ => false,
+    match table::tell_rows(table) {
+        Err(clause) => refused::write_refusal(to, path, table, clause),
+        Ok(()) => Ok(()),
     }
 }
 
-// Writes a table that has a sheet: the sheet, or its words. A refusal leaves the text as it was, so that it is at hand for the note.
-fn write<R: Channels>(
-    rt: &R,
-    job: Job,
-    path: &[u8],
-    letters: usize,
-    table: &[u32],
-    text: &mut [u8],
-) -> u32
-    requires { letters ≤ length text.old }
-{
-    let written = sheet_written::write_sheet(table, text);
-    if written.number != 0 {
-        return refuse_sheet(
-            rt,
-            job.err,
-            path,
-            &text[..letters],
-            table,
-            written.number,
-            written.row,
-        );
+impl<'a, R: Channels + Files> Job<'a, R> {
+    // What stands on a page goes to the answers, or to the complaints.
+
+    fn answer(&self, page: &mut Page<'_>) -> Result<(), Stop> {
+        files::answer(self.console, page.as_slice())?;
+        page.clear();
+        Ok(())
     }
-    if job.command == TABLE {
-        let n = put_table(text, table);
-        return files::answer(rt, job.out, job.err, &text[..n]);
+
+    fn complain(&self, page: &mut Page<'_>, stop: Stop) -> Result<(), Stop> {
+        self.console.complain(page.as_slice());
+        Err(stop)
     }
-    let n = least(written.written, text.len());
-    files::answer(rt, job.out, job.err, &text[..n])
-}
 
-// Graphs.
-
-fn list<R: Channels>(
-    rt: &R,
-    job: Job,
-    graph: &[u32],
-    nodes: &[u32],
-    wires: &[u32],
-    out: &mut [u8],
-) -> u32 {
-    files::written(
-        rt,
-        listed::write_list(rt, job.out, graph, nodes, wires, out),
-        job.err,
-    )
-}
-
-fn draw<R: Channels>(
-    rt: &R,
-    job: Job,
-    graph: &[u32],
-    state: &[u32],
-    nodes: &[u32],
-    wires: &[u32],
-    out: &mut [u8],
-) -> u32 {
-    let asked = job.asked;
-    files::written(
-        rt,
-        listed::write_drawing(rt, job.out, graph, state, nodes, wires, out, asked.signed),
-        job.err,
-    )
-}
-
-fn whole(count: usize) -> Got
-    ensures { result.count ≤ count }
-{
-    Got {
-        status: DONE,
-        letters: 0,
-        count,
+    fn refuse(
+        &self,
+        text: &[u8],
+        table: &[u32],
+        why: Refusal,
+        page: &mut Page<'_>,
+    ) -> Result<(), Stop> {
+        files::note_odd(self.console, self.asked.table, text, u64::MAX);
+        let _ = write_refused(page, self.asked.table, table, why);
+        self.complain(page, Stop::Refused)
     }
-}
 
-// The order list: a file's, the nodes from the last to 0, or none.
-fn order_of<R: Channels + Files>(
-    rt: &R,
-    job: Job,
-    line: &[u8],
-    graph: &[u32],
-    text: &mut [u8],
-    order: &mut [u32],
-) -> Got
-    ensures { result.count ≤ length order.old }
-{
-    let asked = job.asked;
-    if asked.order != 0 {
-        let path = arguments::argument(line, asked.order);
-        return files::read_file(rt, job.err, path, false, text, order);
+    fn check(&self, text: &[u8], table: &[u32], page: &mut Page<'_>) -> Result<(), Stop> {
+        match lowering::check_table(table) {
+            Ok(()) => {
+                let _ = write_accepted(page, self.asked.table);
+                self.answer(page)
+            }
+            Err(refused) => self.refuse(text, table, refused.why, page),
+        }
     }
-    if asked.reverse {
-        return whole(rehearsal::reverse_order(graph, order));
-    }
-    whole(0)
-}
 
-fn put_rehearsed<R: Channels>(
-    rt: &R,
-    job: Job,
-    inputs: &[u32],
-    graph: &[u32],
-    nodes: &[u32],
-    wires: &[u32],
-    order: &[u32],
-    state: &mut [u32],
-    out: &mut [u8],
-) -> rehearsal::Rehearsed
-    ensures { result.count ≤ length out.old }
-{
-    let asked = job.asked;
-    let how = How {
-        trace: asked.trace,
-        signed: asked.signed,
-        to: job.out,
-        err: job.err,
-    };
-    if job.command == DRAW {
-        return rehearsal::draw_graph(
-            rt,
+    // Writes a table that has a sheet: the sheet, or its words.
+    fn write(&self, text: &[u8], table: &[u32], page: &mut Page<'_>) -> Result<(), Stop> {
+        let mut sheet = [0u8; 65536];
+        match sheet_written::write_sheet(table, &mut sheet) {
+            Ok(_) if self.command == Command::Table => {
+                let _ = write_table(page, table);
+                self.answer(page)
+            }
+            Ok(written) => files::answer(self.console, &sheet[..written.min(65536)]),
+            Err(refused) => {
+                files::note_odd(self.console, self.asked.table, text, u64::MAX);
+                let clause = sheet_clause(table, refused);
+                let _ = refused::write_refusal(page, self.asked.table, table, clause);
+                self.complain(page, Stop::Refused)
+            }
+        }
+    }
+
+    // Graphs.
+
+    fn view<'v>(&self, graph: &'v [u32], state: &'v [u32], names: Names<'v>) -> View<'v> {
+        View {
+            graph: Graph(graph),
+            state: State(state),
+            names,
+            signed: self.asked.signed,
+        }
+    }
+
+    fn draw(&self, view: View<'_>, page: &mut Page<'_>) -> Result<(), Stop> {
+        files::written(
+            self.console,
+            listed::write_drawing(self.console, view, page),
+        )
+    }
+
+    // The order list: a file's, the nodes from the last to 0, or none.
+    fn read_order(&self, graph: &[u32], order: &mut Words) -> Result<(), Stop> {
+        if let Some(path) = self.asked.order {
+            let mut text = [0u8; 1048576];
+            files::read_file(self.console, path, false, &mut text, order)?;
+        } else if self.asked.reverse {
+            let _ = order.extend((0..Graph(graph).nodes()).rev());
+        }
+        Ok(())
+    }
+
+    // The reading of the table beside its run.
+    fn hold(
+        &self,
+        table: &[u32],
+        view: View<'_>,
+        ran: Ran,
+        page: &mut Page<'_>,
+    ) -> Result<(), Stop> {
+        let mut results = [0u32; 512];
+        let plain = engine::read_plain(table, self.inputs, &mut results, self.asked.turns);
+        let held = Held {
+            answer: rehearsal::answer_of(ran),
+            view,
+            plain,
+            results: &results,
+        };
+        let _ = held.write(page);
+        if held.verdict() == Verdict::Opposed {
+            return self.complain(page, Stop::Error);
+        }
+        self.answer(page)
+    }
+
+    // What a run answers; above a drawing it stands as a comment, and a reading is told below it.
+    fn tell(
+        &self,
+        table: &[u32],
+        view: View<'_>,
+        ran: Ran,
+        page: &mut Page<'_>,
+    ) -> Result<(), Stop> {
+        if self.command == Command::Draw {
+            let _ = rehearsal::write_drawn(page, view, ran);
+            self.answer(page)?;
+            return self.draw(view, page);
+        }
+        let _ = rehearsal::write_ran(page, view, ran);
+        self.answer(page)?;
+        if self.asked.both {
+            return self.hold(table, view, ran, page);
+        }
+        Ok(())
+    }
+
+    fn run(
+        &self,
+        table: &[u32],
+        graph: &[u32],
+        names: Names<'_>,
+        page: &mut Page<'_>,
+    ) -> Result<(), Stop> {
+        let mut order = Words::new();
+        self.read_order(graph, &mut order)?;
+        let mut memory = [0u32; 32768];
+        let state = &mut memory[..rehearsal::state_words(Graph(graph))];
+        let how = How {
+            console: self.console,
+            names,
+            trace: self.asked.trace,
+            signed: self.asked.signed,
+        };
+        match rehearsal::run_graph(
+            &how,
             graph,
-            nodes,
-            wires,
-            inputs,
+            self.inputs,
             state,
-            order,
-            asked.allowance,
-            how,
-            out,
-        );
-    }
-    rehearsal::run_graph(
-        rt,
-        graph,
-        nodes,
-        wires,
-        inputs,
-        state,
-        order,
-        asked.allowance,
-        how,
-        out,
-    )
-}
-
-// The reading of the table beside its run.
-fn hold<R: Channels>(
-    rt: &R,
-    job: Job,
-    inputs: &[u32],
-    table: &[u32],
-    graph: &[u32],
-    state: &[u32],
-    answer: u32,
-    out: &mut [u8],
-) -> u32 {
-    let mut results = [0u32; 512];
-    let asked = job.asked;
-    let plain = engine::read_plain(table, inputs, &mut results, asked.turns);
-    let held = readings::put_held(out, answer, graph, state, plain, &results, asked.signed);
-    let n = held.count;
-    if held.differs {
-        channels::tell(rt, job.err, &out[..n]);
-        return ERROR;
-    }
-    files::answer(rt, job.out, job.err, &out[..n])
-}
-
-// What a rehearsal told goes to its channel.
-fn tell<R: Channels>(rt: &R, job: Job, refused: bool, text: &[u8]) -> u32 {
-    if refused {
-        channels::tell(rt, job.err, text);
-        return REFUSED;
-    }
-    files::answer(rt, job.out, job.err, text)
-}
-
-// What follows an answer: above a drawing it stands as a comment, and a reading is told below it.
-fn follow<R: Channels>(
-    rt: &R,
-    job: Job,
-    inputs: &[u32],
-    table: &[u32],
-    graph: &[u32],
-    nodes: &[u32],
-    wires: &[u32],
-    state: &[u32],
-    answer: u32,
-    out: &mut [u8],
-) -> u32 {
-    let asked = job.asked;
-    if job.command == DRAW {
-        return draw(rt, job, graph, state, nodes, wires, out);
-    }
-    if asked.both {
-        return hold(rt, job, inputs, table, graph, state, answer, out);
-    }
-    DONE
-}
-
-fn rehearse_in<R: Channels>(
-    rt: &R,
-    job: Job,
-    inputs: &[u32],
-    table: &[u32],
-    graph: &[u32],
-    nodes: &[u32],
-    wires: &[u32],
-    order: &[u32],
-    state: &mut [u32],
-    out: &mut [u8],
-) -> u32 {
-    let rehearsed = put_rehearsed(rt, job, inputs, graph, nodes, wires, order, state, out);
-    let n = rehearsed.count;
-    let told = tell(rt, job, rehearsed.refused, &out[..n]);
-    if told == DONE {
-        return follow(
-            rt,
-            job,
-            inputs,
-            table,
-            graph,
-            nodes,
-            wires,
-            state,
-            rehearsed.answer,
-            out,
-        );
-    }
-    told
-}
-
-fn rehearse<R: Channels>(
-    rt: &R,
-    job: Job,
-    inputs: &[u32],
-    table: &[u32],
-    graph: &[u32],
-    nodes: &[u32],
-    wires: &[u32],
-    order: &[u32],
-    out: &mut [u8],
-) -> u32 {
-    let mut state = [0u32; 32768];
-    let k = rehearsal::state_words(graph);
-    rehearse_in(
-        rt,
-        job,
-        inputs,
-        table,
-        graph,
-        nodes,
-        wires,
-        order,
-        &mut state[..k],
-        out,
-    )
-}
-
-fn run<R: Channels + Files>(
-    rt: &R,
-    job: Job,
-    inputs: &[u32],
-    line: &[u8],
-    table: &[u32],
-    graph: &[u32],
-    nodes: &[u32],
-    wires: &[u32],
-    text: &mut [u8],
-) -> u32 {
-    let mut order = [0u32; 65536];
-    let got = order_of(rt, job, line, graph, text, &mut order);
-    if got.status == DONE {
-        let n = got.count;
-        return rehearse(
-            rt,
-            job,
-            inputs,
-            table,
-            graph,
-            nodes,
-            wires,
-            &order[..n],
-            text,
-        );
-    }
-    got.status
-}
-
-fn on_named<R: Channels + Files>(
-    rt: &R,
-    job: Job,
-    inputs: &[u32],
-    line: &[u8],
-    table: &[u32],
-    graph: &[u32],
-    nodes: &[u32],
-    wires: &[u32],
-    text: &mut [u8],
-) -> u32 {
-    let asked = job.asked;
-    if job.command == LOWER {
-        return list(rt, job, graph, nodes, wires, text);
-    }
-    if job.command == DRAW {
-        if asked.run {} else {
-            return draw(rt, job, graph, &[], nodes, wires, text);
+            order.as_slice(),
+            self.asked.allowance,
+        ) {
+            Ok(ran) => self.tell(table, self.view(graph, state, names), ran, page),
+            Err(why) => {
+                let given = self.inputs.len();
+                let _ = rehearsal::write_refused(page, why, Graph(graph), given);
+                self.complain(page, Stop::Refused)
+            }
         }
     }
-    run(rt, job, inputs, line, table, graph, nodes, wires, text)
-}
 
-// The names of nodes and wires: three words for each of 4,096 and of 8,192. A table that was lowered has them.
-fn on_graph<R: Channels + Files>(
-    rt: &R,
-    job: Job,
-    inputs: &[u32],
-    line: &[u8],
-    table: &[u32],
-    graph: &[u32],
-    text: &mut [u8],
-) -> u32 {
-    let mut nodes = [0u32; 12288];
-    let mut wires = [0u32; 24576];
-    let named = naming::name_graph(table, &mut nodes, &mut wires);
-    if named.number != 0 {
-        return on_named(rt, job, inputs, line, table, graph, &[], &[], text);
-    }
-    on_named(rt, job, inputs, line, table, graph, &nodes, &wires, text)
-}
-
-// Readings.
-
-fn read<R: Channels>(
-    rt: &R,
-    job: Job,
-    inputs: &[u32],
-    path: &[u8],
-    letters: usize,
-    table: &[u32],
-    text: &mut [u8],
-) -> u32
-    requires { letters ≤ length text.old }
-{
-    let mut results = [0u32; 512];
-    let asked = job.asked;
-    let plain = engine::read_plain(table, inputs, &mut results, asked.turns);
-    let number = readings::rows_refusal(plain);
-    if number != 0 {
-        return refuse(rt, job.err, path, &text[..letters], table, number);
-    }
-    let read = readings::put_read(text, table, inputs.len(), plain, &results, asked.signed);
-    let n = read.count;
-    tell(rt, job, read.refused, &text[..n])
-}
-
-// Tables. Once a table is accepted its text is not needed: its memory holds the order list's file, then the answer.
-
-fn lower<R: Channels + Files>(
-    rt: &R,
-    job: Job,
-    inputs: &[u32],
-    line: &[u8],
-    path: &[u8],
-    letters: usize,
-    table: &[u32],
-    graph: &mut [u32],
-    text: &mut [u8],
-) -> u32
-    requires { letters ≤ length text.old }
-{
-    let lowered = lowering::lower(table, graph);
-    if lowered.number != 0 {
-        return refuse(rt, job.err, path, &text[..letters], table, lowered.number);
-    }
-    let n = lowered.written;
-    if n <= graph.len() {
-        return on_graph(rt, job, inputs, line, table, &graph[..n], text);
-    }
-    files::complain(rt, job.err, path, b"the graph is too long");
-    ERROR
-}
-
-// A graph has at most 4 + 2 * 512 + 512 + 7 * 4096 words.
-fn on_table<R: Channels + Files>(
-    rt: &R,
-    job: Job,
-    inputs: &[u32],
-    line: &[u8],
-    path: &[u8],
-    letters: usize,
-    table: &[u32],
-    text: &mut [u8],
-) -> u32
-    requires { letters ≤ length text.old }
-{
-    if job.command == CHECK {
-        return check(rt, job, path, &text[..letters], table);
-    }
-    if is_written(job.command) {
-        return write(rt, job, path, letters, table, text);
-    }
-    if job.command == READ {
-        return read(rt, job, inputs, path, letters, table, text);
-    }
-    let mut graph = [0u32; 30212];
-    lower(
-        rt, job, inputs, line, path, letters, table, &mut graph, text,
-    )
-}
-
-fn on_file<R: Channels + Files>(
-    rt: &R,
-    job: Job,
-    inputs: &[u32],
-    line: &[u8],
-    path: &[u8],
-    text: &mut [u8],
-    words: &mut [u32],
-) -> u32 {
-    let got = files::read_file(rt, job.err, path, true, text, words);
-    if got.status == DONE {
-        let n = got.count;
-        return on_table(rt, job, inputs, line, path, got.letters, &words[..n], text);
-    }
-    got.status
-}
-
-// The memory that all commands on a table share.
-fn on_argument<R: Channels + Files>(rt: &R, job: Job, inputs: &[u32], line: &[u8]) -> u32 {
-    let asked = job.asked;
-    let path = arguments::argument(line, asked.table);
-    let mut text = [0u8; 1048576];
-    let mut words = [0u32; 65536];
-    on_file(rt, job, inputs, line, path, &mut text, &mut words)
-}
-
-// Arguments.
-
-// A command on a table alone: a second argument is no wrong input, but one too many.
-fn alone(asked: Asked) -> Asked
-    ensures { result.inputs ≤ asked.inputs }
-{
-    if asked.problem == arguments::WORD {
-        let mut more = asked;
-        more.problem = arguments::ALONE;
-        more.at = 0;
-        return more;
-    }
-    if asked.run {
-        return arguments::wrong(asked, arguments::ALONE, 0);
-    }
-    if asked.signed {
-        return arguments::wrong(asked, arguments::ALONE, 0);
-    }
-    asked
-}
-
-fn drawable(asked: Asked) -> Asked
-    ensures { result.inputs ≤ asked.inputs }
-{
-    if asked.trace {
-        return arguments::wrong(asked, arguments::TRACE, 0);
-    }
-    if asked.both {
-        return arguments::wrong(asked, arguments::UNREAD, 0);
-    }
-    if asked.turned {
-        return arguments::wrong(asked, arguments::UNREAD, 0);
-    }
-    asked
-}
-
-fn readable(asked: Asked) -> Asked
-    ensures { result.inputs ≤ asked.inputs }
-{
-    if asked.steered {
-        return arguments::wrong(asked, arguments::UNRUN, 0);
-    }
-    asked
-}
-
-fn runnable(asked: Asked) -> Asked
-    ensures { result.inputs ≤ asked.inputs }
-{
-    if asked.turned {
-        if asked.both {
-            return asked;
+    fn on_named(
+        &self,
+        table: &[u32],
+        graph: &[u32],
+        names: Names<'_>,
+        page: &mut Page<'_>,
+    ) -> Result<(), Stop> {
+        let view = self.view(graph, &[], names);
+        match self.command {
+            Command::Lower => files::written(
+                self.console,
+                listed::write_list(self.console, view, page),
+            ),
+            Command::Draw if !self.asked.run => self.draw(view, page),
+            _ => self.run(table, graph, names, page),
         }
-        return arguments::wrong(asked, arguments::UNTURNED, 0);
     }
-    asked
+
+    // The names of nodes and wires: three words for each of 4,096 and of 8,192. A table that was lowered has them.
+    fn on_graph(&self, table: &[u32], graph: &[u32], page: &mut Page<'_>) -> Result<(), Stop> {
+        let mut nodes = [0u32; 12288];
+        let mut wires = [0u32; 24576];
+        let names = match naming::name_graph(table, &mut nodes, &mut wires) {
+            Ok(_) => Names {
+                nodes: &nodes,
+                wires: &wires,
+            },
+            Err(_) => Names {
+                nodes: &[],
+                wires: &[],
+            },
+        };
+        self.on_named(table, graph, names, page)
+    }
+
+    // A graph has at most 4 + 2 * 512 + 512 + 7 * 4096 words.
+    fn lower(&self, text: &[u8], table: &[u32], page: &mut Page<'_>) -> Result<(), Stop> {
+        let mut memory = [0u32; 30212];
+        match lowering::lower(table, &mut memory) {
+            Ok(written) => match memory.get(..written) {
+                Some(graph) => self.on_graph(table, graph, page),
+                None => {
+                    files::complain(self.console, self.asked.table, "the graph is too long");
+                    Err(Stop::Error)
+                }
+            },
+            Err(refused) => self.refuse(text, table, refused.why, page),
+        }
+    }
+
+    // Readings.
+
+    fn read(&self, text: &[u8], table: &[u32], page: &mut Page<'_>) -> Result<(), Stop> {
+        let mut results = [0u32; 512];
+        let plain = engine::read_plain(table, self.inputs, &mut results, self.asked.turns);
+        let reading = Reading {
+            table,
+            given: self.inputs.len(),
+            plain,
+            results: &results,
+            signed: self.asked.signed,
+        };
+        if let Some(why) = reading.rows_refusal() {
+            return self.refuse(text, table, why, page);
+        }
+        let _ = reading.write(page);
+        if plain.is_err() {
+            return self.complain(page, Stop::Refused);
+        }
+        self.answer(page)
+    }
+
+    // Tables.
+
+    fn on_table(&self, text: &[u8], table: &[u32], page: &mut Page<'_>) -> Result<(), Stop> {
+        match self.command {
+            Command::Check => self.check(text, table, page),
+            Command::Sheet | Command::Table => self.write(text, table, page),
+            Command::Read => self.read(text, table, page),
+            Command::Lower | Command::Run | Command::Draw => self.lower(text, table, page),
+        }
+    }
+
+    // The memory that all commands on a table share: the file's letters and words, and the page that is written on.
+    fn on_file(&self) -> Result<(), Stop> {
+        let mut letters = [0u8; 1048576];
+        let mut told = [0u8; 1048576];
+        let mut table = Words::new();
+        let text = files::read_file(
+            self.console,
+            self.asked.table,
+            true,
+            &mut letters,
+            &mut table,
+        )?;
+        self.on_table(text, table.as_slice(), &mut Page::new(&mut told))
+    }
 }
 
-// What a command does not take.
-fn fitting(command: u32, asked: Asked) -> Asked
-    ensures { result.inputs ≤ asked.inputs }
-{
-    match command {
-        RUN => runnable(asked),
-        DRAW => drawable(asked),
-        READ => readable(asked),
-        _ => alone(asked),
+fn ask<R: Channels + Files>(
+    console: &Console<'_, R>,
+    command: Command,
+    line: &[u8],
+) -> Result<(), Stop> {
+    let mut inputs = Inputs::new();
+    match read_asked(command, line, &mut inputs) {
+        Ok(asked) => {
+            let job = Job {
+                console,
+                command,
+                asked,
+                inputs: inputs.as_slice(),
+            };
+            job.on_file()
+        }
+        Err(wrong) => {
+            files::complain(console, wrong.argument, wrong.problem);
+            Err(Stop::Error)
+        }
     }
 }
 
-// What is wrong, behind the argument that it is about.
-fn misused<R: Channels>(rt: &R, err: i32, argument: &[u8], problem: u32) -> u32 {
-    let mut what = [0u8; 4096];
-    let n = arguments::put_problem(&mut what, 0, problem);
-    files::complain(rt, err, argument, &what[..n]);
-    ERROR
-}
-
-fn ask<R: Channels + Files>(rt: &R, command: u32, line: &[u8], out: i32, err: i32) -> u32 {
-    let mut inputs = [0u32; 512];
-    let asked = fitting(command, arguments::read(line, &mut inputs));
-    if asked.problem != 0 {
-        return misused(rt, err, arguments::argument(line, asked.at), asked.problem);
+fn perform<R: Channels + Files>(console: &Console<'_, R>, line: &[u8]) -> Result<(), Stop> {
+    let name = argument(line, 0);
+    match Command::named(name) {
+        Some(command) => ask(console, command, line),
+        None => {
+            files::complain(console, name, "there is no such command");
+            console.complain(USAGE);
+            Err(Stop::Error)
+        }
     }
-    let n = asked.inputs;
-    let job = Job {
-        command,
-        out,
-        err,
-        asked,
-    };
-    on_argument(rt, job, &inputs[..n], line)
-}
-
-fn command_of(name: &[u8]) -> u32 {
-    if text::same(name, b"check") {
-        return CHECK;
-    }
-    if text::same(name, b"lower") {
-        return LOWER;
-    }
-    if text::same(name, b"sheet") {
-        return SHEET;
-    }
-    if text::same(name, b"table") {
-        return TABLE;
-    }
-    if text::same(name, b"run") {
-        return RUN;
-    }
-    if text::same(name, b"draw") {
-        return DRAW;
-    }
-    if text::same(name, b"read") {
-        return READ;
-    }
-    0
-}
-
-fn perform<R: Channels + Files>(rt: &R, line: &[u8], out: i32, err: i32) -> u32 {
-    let name = arguments::argument(line, 0);
-    let command = command_of(name);
-    if command == 0 {
-        files::complain(rt, err, name, b"there is no such command");
-        let _ = usage(rt, err);
-        return ERROR;
-    }
-    ask(rt, command, line, out, err)
 }
 
 // The last line, by which a script tells a refusal and an error from an answer.
-fn close<R: Channels>(rt: &R, out: i32, status: u32) {
-    match status {
-        REFUSED => {
-            channels::tell(rt, out, b"refused\n");
-        }
-        ERROR => {
-            channels::tell(rt, out, b"error\n");
-        }
-        _ => {}
-    }
+fn close<R: Channels>(console: &Console<'_, R>, stop: Stop) {
+    let mut memory = [0u8; 16];
+    let mut page = Page::new(&mut memory);
+    let _ = writeln!(page, "{stop}");
+    let _ = console.answer(page.as_slice());
 }
 
 // Arguments for which there is no room.
-pub fn refuse_long<R: Channels>(rt: &R, out: i32, err: i32) {
-    files::complain(rt, err, b"rehearse", b"the arguments are too long");
-    close(rt, out, ERROR);
+pub fn refuse_long<R: Channels>(console: &Console<'_, R>) {
+    files::complain(console, b"rehearse", "the arguments are too long");
+    close(console, Stop::Error);
 }
 
 // Does what the arguments in a text ask.
-pub fn obey<R: Channels + Files>(rt: &R, line: &[u8], out: i32, err: i32) {
+pub fn obey<R: Channels + Files>(console: &Console<'_, R>, line: &[u8]) {
     if arguments::asks_help(line) {
-        files::written(rt, usage(rt, out), err);
+        let _ = files::written(console, console.answer(USAGE));
         return;
     }
-    if text::same(arguments::argument(line, 0), b"calls") {
-        calls::serve(rt, channels::INPUT, out);
+    if argument(line, 0) == b"calls".as_slice() {
+        calls::serve(console);
         return;
     }
-    close(rt, out, perform(rt, line, out, err));
+    if let Err(stop) = perform(console, line) {
+        close(console, stop);
+    }
 }

@@ -5,592 +5,542 @@
 // Nothing is asked of the words: what is not there reads as 0, and so does a count past 8,192.
 #![tactic(auto)]
 
-ghost use Rattle.std.specs.Prelude.{◌≡◌, ◌≤◌, ◌<◌, ◌+◌, ◌*◌, length};
+ghost use Rattle.std.specs.Prelude.{◌<◌, ◌^◌, ◌≤◌};
+
+use std::io::Write;
+use std::{fmt, io};
+use text::Word;
+use told::{Code, NodeKind};
 
 const MOST: u32 = 8192;
 
 pub fn word_at(words: &[u32], i: usize) -> u32 {
-    if i < words.len() {
-        return words[i];
+    words.get(i).copied().unwrap_or(0)
+}
+
+// `count` words from `from` on, with spaces between.
+#[derive(Clone, Copy, Debug)]
+pub struct Line<'a> {
+    words: &'a [u32],
+    from: usize,
+    count: u32,
+}
+
+impl<'a> fmt::Display for Line<'a> {
+    fn fmt<W: fmt::Write>(&self, f: &mut fmt::Formatter<W>) -> fmt::Result {
+        for i in 0..self.count {
+            let gap = if i == 0 { "" } else { " " };
+            let word = word_at(self.words, self.from.saturating_add(i as usize));
+            write!(f, "{gap}{word}")?;
+        }
+        Ok(())
     }
-    0
 }
 
-// A count of the header, or 0 where it is past every limit.
-pub fn count_at(graph: &[u32], i: usize) -> usize
-    ensures { result ≤ 8192 }
-{
-    let n = word_at(graph, i);
-    if n <= MOST {
-        return n as usize;
+// The words of a graph.
+#[derive(Clone, Copy, Debug)]
+pub struct Graph<'a>(pub &'a [u32]);
+
+// A start: an input and its number, or a constant and its word.
+#[derive(Clone, Copy, Debug)]
+pub struct Start {
+    pub kind: u32,
+    pub word: u32,
+}
+
+// A node, as the words of its row say: among them the wires that it takes, and the first that it gives.
+#[derive(Clone, Copy, Debug)]
+pub struct Node {
+    pub number: u32,
+    pub kind: u32,
+    pub code: u32,
+    pub sort: u32,
+    pub takes: [u32; 3],
+    pub gives: u32,
+}
+
+impl<'a> Graph<'a> {
+    // A count of the header, or 0 where it is past every limit.
+    fn count(self, i: usize) -> u32
+        ensures { result ≤ 8192 }
+    {
+        let count = word_at(self.0, i);
+        if count <= MOST { count } else { 0 }
     }
-    0
-}
 
-// Where the results and the rows stand.
-pub fn results_place(graph: &[u32]) -> usize
-    ensures { result ≤ 20000 }
-{
-    4 + 2 * count_at(graph, 2)
-}
-
-fn rows_place(graph: &[u32]) -> usize
-    ensures { result ≤ 30000 }
-{
-    results_place(graph) + count_at(graph, 3)
-}
-
-// Word k of node i's row.
-pub fn row_word(graph: &[u32], i: usize, k: usize) -> u32
-    requires { (i ≤ 8192) × (k ≤ 8) }
-{
-    word_at(graph, rows_place(graph) + 7 * i + k)
-}
-
-// The words from `from` on, on a line.
-fn put_line(out: &mut [u8], at: usize, words: &[u32], from: usize, count: usize) -> usize
-    requires { (at ≤ length out.old) × (from ≤ 100000) × (count ≤ 100000) }
-    ensures { result ≤ length out.old }
-{
-    let mut n = at;
-    let mut i: usize = 0;
-    while i < count {
-        n = put_gap(out, n, i);
-        n = text::put_number(out, n, word_at(words, from + i) as u64);
-        i += 1;
+    pub fn nodes(self) -> u32
+        ensures { result ≤ 8192 }
+    {
+        self.count(0)
     }
-    text::put_letter(out, n, b'\n')
+
+    pub fn wires(self) -> u32
+        ensures { result ≤ 8192 }
+    {
+        self.count(1)
+    }
+
+    pub fn starts(self) -> u32
+        ensures { result ≤ 8192 }
+    {
+        self.count(2)
+    }
+
+    pub fn results(self) -> u32
+        ensures { result ≤ 8192 }
+    {
+        self.count(3)
+    }
+
+    fn start_place(self, k: u32) -> usize
+        ensures { result < 2 ^ 34 }
+    {
+        4 + 2 * k as usize
+    }
+
+    pub fn start(self, k: u32) -> Start {
+        let place = self.start_place(k);
+        Start {
+            kind: word_at(self.0, place),
+            word: word_at(self.0, place + 1),
+        }
+    }
+
+    fn results_place(self) -> usize
+        ensures { result < 2 ^ 34 }
+    {
+        self.start_place(self.starts())
+    }
+
+    // The wire of result k.
+    pub fn result(self, k: u32) -> u32 {
+        word_at(self.0, self.results_place() + k as usize)
+    }
+
+    fn row_place(self, i: u32) -> usize
+        ensures { result < 2 ^ 36 }
+    {
+        self.results_place() + self.results() as usize + 7 * i as usize
+    }
+
+    pub fn node(self, i: u32) -> Node {
+        let place = self.row_place(i);
+        Node {
+            number: i,
+            kind: word_at(self.0, place),
+            code: word_at(self.0, place + 1),
+            sort: word_at(self.0, place + 2),
+            takes: [
+                word_at(self.0, place + 3),
+                word_at(self.0, place + 4),
+                word_at(self.0, place + 5),
+            ],
+            gives: word_at(self.0, place + 6),
+        }
+    }
+
+    // Whether a wire is a start, which no node gives.
+    fn is_start(self, wire: u32) -> bool {
+        wire < word_at(self.0, 2)
+    }
+
+    // The node that gives a wire, or what stands behind the last where none does.
+    fn source_of(self, wire: u32) -> Node {
+        let last = self.nodes();
+        for i in 0..last {
+            let node = self.node(i);
+            if node.gives_wire(wire) {
+                return node;
+            }
+        }
+        self.node(last)
+    }
+
+    // The words of a part of the graph.
+
+    fn line(self, from: usize, count: u32) -> Line<'a> {
+        Line {
+            words: self.0,
+            from,
+            count,
+        }
+    }
+
+    pub fn header(self) -> Line<'a> {
+        self.line(0, 4)
+    }
+
+    pub fn start_words(self, k: u32) -> Line<'a> {
+        self.line(self.start_place(k), 2)
+    }
+
+    pub fn row(self, i: u32) -> Line<'a> {
+        self.line(self.row_place(i), 7)
+    }
 }
 
-fn put_gap(out: &mut [u8], at: usize, i: usize) -> usize
-    requires { at ≤ length out.old }
-    ensures { result ≤ length out.old }
-{
-    if i == 0 {
-        return at;
+impl Node {
+    // The wires that it takes, in order.
+    pub fn inputs(&self) -> &[u32] {
+        self.takes
+            .get(..graph::inputs_of(self.kind) as usize)
+            .unwrap_or(&[])
     }
-    text::put_letter(out, at, b' ')
-}
 
-fn put_rows(out: &mut [u8], at: usize, graph: &[u32]) -> usize
-    requires { at ≤ length out.old }
-    ensures { result ≤ length out.old }
-{
-    let rows = rows_place(graph);
-    let nodes = count_at(graph, 0);
-    let mut n = at;
-    let mut i: usize = 0;
-    while i < nodes {
-        n = put_line(out, n, graph, rows + 7 * i, 7);
-        i += 1;
+    // How many wires it gives.
+    pub fn outputs(&self) -> u32 {
+        graph::outputs_of(self.kind)
     }
-    n
+
+    fn gives_wire(&self, wire: u32) -> bool {
+        match wire.checked_sub(self.gives) {
+            Some(k) => k < self.outputs(),
+            None => false,
+        }
+    }
+
+    // The sort of a wire that it gives: its first output or its second.
+    fn sort_of(&self, wire: u32) -> u32 {
+        let place = if wire == self.gives { 0 } else { 1 };
+        graph::output_sort(self.kind, self.code, self.sort, place)
+    }
 }
 
 // The words of a graph: a line for the header, for starts, for results and for each node.
-pub fn put_graph(out: &mut [u8], at: usize, graph: &[u32]) -> usize
-    requires { at ≤ length out.old }
-    ensures { result ≤ length out.old }
-{
-    let results = results_place(graph);
-    let a = put_line(out, at, graph, 0, 4);
-    let b = put_line(out, a, graph, 4, 2 * count_at(graph, 2));
-    let c = put_line(out, b, graph, results, count_at(graph, 3));
-    put_rows(out, c, graph)
+pub fn write_graph<W: Write>(to: &mut W, graph: Graph<'_>) -> io::Result<()> {
+    let header = graph.header();
+    let starts = graph.line(4, 2 * graph.starts());
+    let results = graph.line(graph.results_place(), graph.results());
+    write!(to, "{header}\n{starts}\n{results}\n")?;
+    for i in 0..graph.nodes() {
+        let row = graph.row(i);
+        writeln!(to, "{row}")?;
+    }
+    Ok(())
 }
 
-// The node that gives a wire, or the number of nodes where none does.
-fn source_of(graph: &[u32], wire: u32) -> usize
-    ensures { result ≤ 8192 }
-{
-    let nodes = count_at(graph, 0);
-    let mut i: usize = 0;
-    while i < nodes {
-        if gives(
-            row_word(graph, i, 6),
-            graph::outputs_of(row_word(graph, i, 0)),
-            wire,
-        ) {
-            return i;
+// The words of a state.
+#[derive(Clone, Copy, Debug)]
+pub struct State<'a>(pub &'a [u32]);
+
+impl<'a> State<'a> {
+    // The word on a wire, whether a token stands there or not.
+    pub fn word(self, wire: u32) -> u32 {
+        word_at(self.0, 2 * wire as usize + 1)
+    }
+
+    // The word of the token on a wire, if one stands there.
+    pub fn token(self, wire: u32) -> Option<u32> {
+        if word_at(self.0, 2 * wire as usize) == 0 {
+            return None;
         }
-        i += 1;
+        Some(self.word(wire))
     }
-    i
 }
 
-fn gives(first: u32, outputs: u32, wire: u32) -> bool {
-    if first <= wire {
-        return wire - first < outputs;
+// Names of nodes and of wires, three words each: what it is, its row, and of a copy the value's row. Where there are no words there are no names.
+#[derive(Clone, Copy, Debug)]
+pub struct Names<'a> {
+    pub nodes: &'a [u32],
+    pub wires: &'a [u32],
+}
+
+#[derive(Clone, Copy, Debug)]
+pub struct Name {
+    pub what: u32,
+    pub row: u32,
+    pub copied: u32,
+}
+
+fn name_at(names: &[u32], k: u32) -> Option<Name> {
+    match names.get(3 * k as usize..)? {
+        [what, row, copied, ..] => Some(Name {
+            what: *what,
+            row: *row,
+            copied: *copied,
+        }),
+        _ => None,
     }
-    false
 }
 
-// The sort of the wire that node i gives: its first output or its second.
-fn sort_of(graph: &[u32], i: usize, wire: u32) -> u32
-    requires { i ≤ 8192 }
-{
-    let kind = row_word(graph, i, 0);
-    let code = row_word(graph, i, 1);
-    let sort = row_word(graph, i, 2);
-    if wire == row_word(graph, i, 6) {
-        return graph::out0_sort(kind, code, sort);
+impl<'a> Names<'a> {
+    pub fn node(self, i: u32) -> Option<Name> {
+        name_at(self.nodes, i)
     }
-    graph::out1_sort(kind, code, sort)
+
+    pub fn wire(self, w: u32) -> Option<Name> {
+        name_at(self.wires, w)
+    }
 }
 
-fn put_shape(out: &mut [u8], at: usize, kind: u32) -> usize
-    requires { at ≤ length out.old }
-    ensures { result ≤ length out.old }
-{
-    let shapes = b"house;invhouse;box;box3d;diamond;triangle;invtriangle;circle;trapezium";
-    text::put(out, at, text::part(shapes, kind as usize))
+// What is shown of a graph, with what stands on its wires and in its records.
+#[derive(Clone, Copy, Debug)]
+pub struct View<'a> {
+    pub graph: Graph<'a>,
+    pub state: State<'a>,
+    pub names: Names<'a>,
+    pub signed: bool,
 }
 
-// A letter and a number, as n3 for node 3.
-fn put_mark(out: &mut [u8], at: usize, letter: u8, number: u64) -> usize
-    requires { at ≤ length out.old }
-    ensures { result ≤ length out.old }
-{
-    let n = text::put_letter(out, at, letter);
-    text::put_number(out, n, number)
+impl<'a> View<'a> {
+    pub fn word(self, word: u32) -> Word {
+        Word {
+            word,
+            signed: self.signed,
+        }
+    }
 }
 
-// A node's number, its kind, and what its code says.
-pub fn put_name(out: &mut [u8], at: usize, graph: &[u32], i: usize) -> usize
-    requires { (at ≤ length out.old) × (i ≤ 8192) }
-    ensures { result ≤ length out.old }
-{
-    let kind = row_word(graph, i, 0);
-    let a = text::put_number(out, at, i as u64);
-    let b = text::put_letter(out, a, b' ');
-    let c = told::put_machine(out, b, kind);
-    told::put_code(out, c, kind, row_word(graph, i, 1))
-}
+// Names in few words.
 
 // A row of the table, or for the copy of a value the value's row and its loop's.
-fn put_rows_named(out: &mut [u8], at: usize, copy: bool, row: u32, of: u32) -> usize
-    requires { at ≤ length out.old }
-    ensures { result ≤ length out.old }
-{
-    if copy {
-        let a = text::put_number(out, at, of as u64);
-        let b = text::put(out, a, b" in FOR ");
-        return text::put_number(out, b, row as u64);
-    }
-    text::put_number(out, at, row as u64)
+#[derive(Clone, Copy, Debug)]
+struct Rows {
+    copy: bool,
+    name: Name,
 }
 
-// What a wire before forks has, in few words; `what` 7 to 9 is of a copy.
-fn put_wire_short(out: &mut [u8], at: usize, what: u32, row: u32, of: u32) -> usize
-    requires { at ≤ length out.old }
-    ensures { result ≤ length out.old }
-{
-    let names =
-        b"row ;row ;raw index, FOR ;raw condition, FOR ;index, FOR ;gated condition, FOR ;guard, FOR ;true leg, copy of row ;false leg, copy of row ;copy of row ;carry, ARG ;ARG ;exit word, ARG ";
-    let n = text::put(out, at, text::part(names, what as usize));
-    put_rows_named(out, n, 7 <= what && what <= 9, row, of)
+impl fmt::Display for Rows {
+    fn fmt<W: fmt::Write>(&self, f: &mut fmt::Formatter<W>) -> fmt::Result {
+        let row = self.name.row;
+        let copied = self.name.copied;
+        if self.copy {
+            return write!(f, "{copied} in FOR {row}");
+        }
+        write!(f, "{row}")
+    }
 }
 
-// What a node is for, in few words: its row, or of a FORK (from 16 on) or DRAIN (from 32 on) what its wire has.
-fn put_role_short(out: &mut [u8], at: usize, role: u32, row: u32, of: u32) -> usize
-    requires { at ≤ length out.old }
-    ensures { result ≤ length out.old }
-{
-    if role < 16 {
-        let names = b"row ;FOR ;FOR ;guard, FOR ;copy of row ;copy of row ;ARG ;ARG ";
-        let n = text::put(out, at, text::part(names, role as usize));
-        return put_rows_named(out, n, role == 4 || role == 5, row, of);
+// What a wire before forks has.
+#[derive(Clone, Copy, Debug)]
+struct Carried(Name);
+
+impl fmt::Display for Carried {
+    fn fmt<W: fmt::Write>(&self, f: &mut fmt::Formatter<W>) -> fmt::Result {
+        let name = self.0;
+        let what = match name.what {
+            0 | 1 => "row ",
+            2 => "raw index, FOR ",
+            3 => "raw condition, FOR ",
+            4 => "index, FOR ",
+            5 => "gated condition, FOR ",
+            6 => "guard, FOR ",
+            7 => "true leg, copy of row ",
+            8 => "false leg, copy of row ",
+            9 => "copy of row ",
+            10 => "carry, ARG ",
+            11 => "ARG ",
+            12 => "exit word, ARG ",
+            _ => "",
+        };
+        let rows = Rows {
+            copy: matches!(name.what, 7..=9),
+            name,
+        };
+        write!(f, "{what}{rows}")
     }
-    let n = text::put(out, at, b"of ");
-    if role < 32 {
-        return put_wire_short(out, n, role - 16, row, of);
-    }
-    put_wire_short(out, n, role - 32, row, of)
 }
 
-// The second line of node i, if it has a name: three words of `nodes`.
-fn put_role_line(out: &mut [u8], at: usize, nodes: &[u32], i: usize) -> usize
-    requires { (at ≤ length out.old) × (i ≤ 8192) }
-    ensures { result ≤ length out.old }
-{
-    let place = 3 * i;
-    if place + 2 < nodes.len() {
-        let n = text::put(out, at, b"\\n");
-        return put_role_short(out, n, nodes[place], nodes[place + 1], nodes[place + 2]);
+// What a node is for: its row, or of a FORK (from 16 on) or DRAIN (from 32 on) what its wire has.
+#[derive(Clone, Copy, Debug)]
+struct Role(Name);
+
+impl fmt::Display for Role {
+    fn fmt<W: fmt::Write>(&self, f: &mut fmt::Formatter<W>) -> fmt::Result {
+        let name = self.0;
+        if name.what < 16 {
+            let what = match name.what {
+                0 => "row ",
+                1 | 2 => "FOR ",
+                3 => "guard, FOR ",
+                4 | 5 => "copy of row ",
+                6 | 7 => "ARG ",
+                _ => "",
+            };
+            let rows = Rows {
+                copy: matches!(name.what, 4..=5),
+                name,
+            };
+            return write!(f, "{what}{rows}");
+        }
+        let what = if name.what < 32 {
+            name.what - 16
+        } else {
+            name.what - 32
+        };
+        let carried = Carried(Name { what, ..name });
+        write!(f, "of {carried}")
     }
-    at
 }
 
-fn put_node(out: &mut [u8], at: usize, graph: &[u32], nodes: &[u32], i: usize) -> usize
-    requires { (at ≤ length out.old) × (i ≤ 8192) }
-    ensures { result ≤ length out.old }
-{
-    let a = put_mark(out, at, b'n', i as u64);
-    let b = text::put(out, a, b" [label=\"");
-    let c = put_name(out, b, graph, i);
-    let d = put_role_line(out, c, nodes, i);
-    let e = text::put(out, d, b"\" shape=");
-    let f = put_shape(out, e, row_word(graph, i, 0));
-    text::put(out, f, b"];\n")
+// A drawing.
+
+fn shape(kind: u32) -> &'static str {
+    match kind {
+        0 => "house",
+        1 => "invhouse",
+        2 => "box",
+        3 => "box3d",
+        4 => "diamond",
+        5 => "triangle",
+        6 => "invtriangle",
+        7 => "circle",
+        8 => "trapezium",
+        _ => "",
+    }
 }
 
-// Where a wire comes from: a start or a node.
-fn put_source(out: &mut [u8], at: usize, graph: &[u32], wire: u32) -> usize
-    requires { at ≤ length out.old }
-    ensures { result ≤ length out.old }
-{
-    if wire < word_at(graph, 2) {
-        return put_mark(out, at, b's', wire as u64);
+// A node's number, its kind, and what its code says; in a second line its name, if it has one.
+fn write_node<W: Write>(to: &mut W, node: Node, names: Names<'_>) -> io::Result<()> {
+    let number = node.number;
+    let kind = NodeKind(node.kind);
+    let code = Code {
+        kind: node.kind,
+        code: node.code,
+    };
+    write!(to, "n{number} [label=\"{number} {kind}{code}")?;
+    if let Some(name) = names.node(number) {
+        let role = Role(name);
+        write!(to, "\\n{role}")?;
     }
-    put_mark(out, at, b'n', source_of(graph, wire) as u64)
+    let shape = shape(node.kind);
+    writeln!(to, "\" shape={shape}];")
 }
 
-fn put_style(out: &mut [u8], at: usize, graph: &[u32], wire: u32) -> usize
-    requires { at ≤ length out.old }
-    ensures { result ≤ length out.old }
-{
-    if wire < word_at(graph, 2) {
-        return text::put(out, at, b"solid");
+// What input k of a kind is called; FORK and DRAIN have one input, which needs no name.
+fn input_mark(kind: u32, k: usize) -> &'static str {
+    match (kind, k) {
+        (0, 0) => "start",
+        (0, 1) => "step",
+        (0, _) => "bound",
+        (1, 0) | (4, 1) => "value",
+        (1, 1) => "cond",
+        (2, 0) | (3, 0) => "d",
+        (2, 1) | (3, 1) => "a",
+        (2, _) => "b",
+        (4, 0) | (8, 0) => "flag",
+        (7, 0) | (8, 1) => "x",
+        (7, 1) | (8, _) => "y",
+        _ => "",
     }
-    if sort_of(graph, source_of(graph, wire), wire) == 0 {
-        return text::put(out, at, b"solid");
+}
+
+// What an output of a kind is called, its first or its second; a FORK's two are alike.
+fn output_mark(kind: u32, first: bool) -> &'static str {
+    match (kind, first) {
+        (0, true) => "index",
+        (1, true) => "value",
+        (0, false) | (1, false) => "cond",
+        (4, true) => "T",
+        (4, false) => "F",
+        _ => "",
     }
-    text::put(out, at, b"dashed")
 }
 
 // What stands at one end of a wire, if it has a mark.
-fn put_end(out: &mut [u8], at: usize, name: &[u8], mark: &[u8]) -> usize
-    requires { at ≤ length out.old }
-    ensures { result ≤ length out.old }
-{
-    if mark.len() == 0 {
-        return at;
+fn write_end<W: Write>(to: &mut W, end: &str, mark: &str) -> io::Result<()> {
+    if mark.is_empty() {
+        return Ok(());
     }
-    let a = text::put(out, at, name);
-    let b = text::put(out, a, mark);
-    text::put_letter(out, b, b'"')
+    write!(to, " {end}label=\"{mark}\"")
 }
 
-// What input k of a kind is called, three to a kind; FORK and DRAIN have one input, which needs no name.
-fn put_head(out: &mut [u8], at: usize, kind: u32, k: usize) -> usize
-    requires { (at ≤ length out.old) × (k < 3) }
-    ensures { result ≤ length out.old }
-{
-    let marks = b"start;step;bound;value;cond;;d;a;b;d;a;;flag;value;;;;;;;;x;y;;flag;x;y";
-    let mark = text::part(marks, 3 * (kind as usize) + k);
-    put_end(out, at, b" headlabel=\"", mark)
-}
-
-// Which output of a node a wire is, if its first is not this one: the second.
-fn output_place(first: u32, wire: u32) -> usize
-    ensures { result ≤ 1 }
-{
-    if wire == first {
-        return 0;
-    }
-    1
-}
-
-// What the output that gives a wire is called, two to a kind; a FORK's two are alike.
-fn put_tail(out: &mut [u8], at: usize, graph: &[u32], wire: u32) -> usize
-    requires { at ≤ length out.old }
-    ensures { result ≤ length out.old }
-{
-    if wire < word_at(graph, 2) {
-        return at;
-    }
-    let i = source_of(graph, wire);
-    let place = output_place(row_word(graph, i, 6), wire);
-    let kind = row_word(graph, i, 0);
-    let marks = b"index;cond;value;cond;;;;;T;F";
-    let mark = text::part(marks, 2 * (kind as usize) + place);
-    put_end(out, at, b" taillabel=\"", mark)
-}
-
-// What a wire has, if it has a name: three words of `wires`.
-fn put_tip(out: &mut [u8], at: usize, wires: &[u32], wire: u32) -> usize
-    requires { at ≤ length out.old }
-    ensures { result ≤ length out.old }
-{
-    let place = 3 * (wire as usize);
-    if place + 2 < wires.len() {
-        let a = text::put(out, at, b" tooltip=\"");
-        let b = put_wire_short(out, a, wires[place], wires[place + 1], wires[place + 2]);
-        return text::put_letter(out, b, b'"');
-    }
-    at
-}
-
-// The token on a wire, if one stands there.
-fn put_token(out: &mut [u8], at: usize, state: &[u32], wire: u32, signed: bool) -> usize
-    requires { at ≤ length out.old }
-    ensures { result ≤ length out.old }
-{
-    let place = 2 * (wire as usize);
-    if word_at(state, place) == 0 {
-        return at;
-    }
-    let n = text::put(out, at, b": ");
-    text::put_word(out, n, word_at(state, place + 1), signed)
-}
-
-// From where a wire comes to the reader that `letter` and `number` name.
-fn put_arrow(
-    out: &mut [u8],
-    at: usize,
-    graph: &[u32],
+// Where a wire comes from, a start or a node, and its reader.
+fn write_arrow<W: Write>(
+    to: &mut W,
+    source: Option<Node>,
     wire: u32,
-    letter: u8,
-    number: usize,
-) -> usize
-    requires { at ≤ length out.old }
-    ensures { result ≤ length out.old }
-{
-    let a = put_source(out, at, graph, wire);
-    let b = text::put(out, a, b" -> ");
-    put_mark(out, b, letter, number as u64)
+    reader: &str,
+) -> io::Result<()> {
+    match source {
+        None => write!(to, "s{wire}")?,
+        Some(node) => {
+            let number = node.number;
+            write!(to, "n{number}")?;
+        }
+    }
+    write!(to, " -> {reader}")
 }
 
-// A wire's label: its number, and the token on it.
-fn put_label(out: &mut [u8], at: usize, state: &[u32], wire: u32, signed: bool) -> usize
-    requires { at ≤ length out.old }
-    ensures { result ≤ length out.old }
-{
-    let a = text::put(out, at, b" [label=\"");
-    let b = text::put_number(out, a, wire as u64);
-    let c = put_token(out, b, state, wire, signed);
-    text::put(out, c, b"\" style=")
-}
-
-// A wire as an edge, up to what its reader calls it: label, sort, its source's mark and its name.
-fn put_edge(
-    out: &mut [u8],
-    at: usize,
-    graph: &[u32],
-    state: &[u32],
-    wires: &[u32],
+// A wire as an edge to what `reader` and `number` name, up to what its reader calls it: its number, the token on it, its sort, its source's mark and its name.
+fn write_edge<W: Write>(
+    to: &mut W,
+    view: View<'_>,
     wire: u32,
-    letter: u8,
-    number: usize,
-    signed: bool,
-) -> usize
-    requires { at ≤ length out.old }
-    ensures { result ≤ length out.old }
-{
-    let a = put_arrow(out, at, graph, wire, letter, number);
-    let b = put_label(out, a, state, wire, signed);
-    let c = put_style(out, b, graph, wire);
-    let d = put_tail(out, c, graph, wire);
-    put_tip(out, d, wires, wire)
-}
-
-// The edges to node i: its inputs in order.
-fn put_inputs(
-    out: &mut [u8],
-    at: usize,
-    graph: &[u32],
-    state: &[u32],
-    wires: &[u32],
-    i: usize,
-    signed: bool,
-) -> usize
-    requires { (at ≤ length out.old) × (i ≤ 8192) }
-    ensures { result ≤ length out.old }
-{
-    let mut n = at;
-    let mut k: usize = 0;
-    while k < 3 {
-        n = put_input(out, n, graph, state, wires, i, k, signed);
-        k += 1;
+    reader: &str,
+    number: u32,
+) -> io::Result<()> {
+    let source = if view.graph.is_start(wire) {
+        None
+    } else {
+        Some(view.graph.source_of(wire))
+    };
+    write_arrow(to, source, wire, reader)?;
+    write!(to, "{number} [label=\"{wire}")?;
+    if let Some(word) = view.state.token(wire) {
+        let word = view.word(word);
+        write!(to, ": {word}")?;
     }
-    n
-}
-
-fn put_input(
-    out: &mut [u8],
-    at: usize,
-    graph: &[u32],
-    state: &[u32],
-    wires: &[u32],
-    i: usize,
-    k: usize,
-    signed: bool,
-) -> usize
-    requires { (at ≤ length out.old) × (i ≤ 8192) × (k < 3) }
-    ensures { result ≤ length out.old }
-{
-    let kind = row_word(graph, i, 0);
-    if k < graph::inputs_of(kind) as usize {
-        let a = put_edge(
-            out,
-            at,
-            graph,
-            state,
-            wires,
-            row_word(graph, i, 3 + k),
-            b'n',
-            i,
-            signed,
-        );
-        let b = put_head(out, a, kind, k);
-        return text::put(out, b, b"];\n");
+    match source {
+        Some(node) if node.sort_of(wire) != 0 => to.write_all(b"\" style=dashed")?,
+        _ => to.write_all(b"\" style=solid")?,
     }
-    at
-}
-
-// Node i and the wires to it.
-pub fn put_part(
-    out: &mut [u8],
-    at: usize,
-    graph: &[u32],
-    state: &[u32],
-    nodes: &[u32],
-    wires: &[u32],
-    i: usize,
-    signed: bool,
-) -> usize
-    requires { (at ≤ length out.old) × (i ≤ 8192) }
-    ensures { result ≤ length out.old }
-{
-    let n = put_node(out, at, graph, nodes, i);
-    put_inputs(out, n, graph, state, wires, i, signed)
-}
-
-fn put_nodes(
-    out: &mut [u8],
-    at: usize,
-    graph: &[u32],
-    state: &[u32],
-    nodes: &[u32],
-    wires: &[u32],
-    signed: bool,
-) -> usize
-    requires { at ≤ length out.old }
-    ensures { result ≤ length out.old }
-{
-    let count = count_at(graph, 0);
-    let mut n = at;
-    let mut i: usize = 0;
-    while i < count {
-        n = put_part(out, n, graph, state, nodes, wires, i, signed);
-        i += 1;
+    if let Some(node) = source {
+        write_end(to, "tail", output_mark(node.kind, wire == node.gives))?;
     }
-    n
-}
-
-fn put_start(out: &mut [u8], at: usize, graph: &[u32], k: usize, signed: bool) -> usize
-    requires { (at ≤ length out.old) × (k ≤ 8192) }
-    ensures { result ≤ length out.old }
-{
-    let a = put_mark(out, at, b's', k as u64);
-    let b = text::put(out, a, b" [shape=plaintext label=\"");
-    let c = text::put(
-        out,
-        b,
-        text::part(b"input ;constant ", word_at(graph, 4 + 2 * k) as usize),
-    );
-    let d = text::put_word(out, c, word_at(graph, 5 + 2 * k), signed);
-    text::put(out, d, b"\"];\n")
-}
-
-fn put_starts(out: &mut [u8], at: usize, graph: &[u32], signed: bool) -> usize
-    requires { at ≤ length out.old }
-    ensures { result ≤ length out.old }
-{
-    let starts = count_at(graph, 2);
-    let mut n = at;
-    let mut k: usize = 0;
-    while k < starts {
-        n = put_start(out, n, graph, k, signed);
-        k += 1;
+    if let Some(name) = view.names.wire(wire) {
+        let carried = Carried(name);
+        write!(to, " tooltip=\"{carried}\"")?;
     }
-    n
+    Ok(())
 }
 
-fn put_result(
-    out: &mut [u8],
-    at: usize,
-    graph: &[u32],
-    state: &[u32],
-    wires: &[u32],
-    k: usize,
-    signed: bool,
-) -> usize
-    requires { (at ≤ length out.old) × (k ≤ 8192) }
-    ensures { result ≤ length out.old }
-{
-    let a = put_mark(out, at, b'r', k as u64);
-    let b = text::put(out, a, b" [shape=plaintext label=\"result ");
-    let c = text::put_number(out, b, k as u64);
-    let d = text::put(out, c, b"\"];\n");
-    let wire = word_at(graph, results_place(graph) + k);
-    let e = put_edge(out, d, graph, state, wires, wire, b'r', k, signed);
-    text::put(out, e, b"];\n")
-}
-
-fn put_results(
-    out: &mut [u8],
-    at: usize,
-    graph: &[u32],
-    state: &[u32],
-    wires: &[u32],
-    signed: bool,
-) -> usize
-    requires { at ≤ length out.old }
-    ensures { result ≤ length out.old }
-{
-    let results = count_at(graph, 3);
-    let mut n = at;
-    let mut k: usize = 0;
-    while k < results {
-        n = put_result(out, n, graph, state, wires, k, signed);
-        k += 1;
+// Node i and the wires to it: its inputs in order.
+pub fn write_part<W: Write>(to: &mut W, view: View<'_>, i: u32) -> io::Result<()> {
+    let node = view.graph.node(i);
+    write_node(to, node, view.names)?;
+    for (k, wire) in node.inputs().iter().enumerate() {
+        write_edge(to, view, *wire, "n", i)?;
+        write_end(to, "head", input_mark(node.kind, k))?;
+        to.write_all(b"];\n")?;
     }
-    n
+    Ok(())
 }
 
 // What stands above the nodes.
-pub fn put_top(out: &mut [u8], at: usize, graph: &[u32], signed: bool) -> usize
-    requires { at ≤ length out.old }
-    ensures { result ≤ length out.old }
-{
-    let legend =
-        b"label=\"solid: words, dashed: flags; a wire has its number, then the token on it; T and F: the true and the false leg\";\n";
-    let a = text::put(out, at, b"digraph graph_of_tokens {\n");
-    let b = text::put(out, a, legend);
-    put_starts(out, b, graph, signed)
+pub fn write_top<W: Write>(to: &mut W, view: View<'_>) -> io::Result<()> {
+    to.write_all(b"digraph graph_of_tokens {\n")?;
+    to.write_all(
+        b"label=\"solid: words, dashed: flags; a wire has its number, then the token on it; T and F: the true and the false leg\";\n",
+    )?;
+    for k in 0..view.graph.starts() {
+        let start = view.graph.start(k);
+        let kind = match start.kind {
+            0 => "input ",
+            1 => "constant ",
+            _ => "",
+        };
+        let word = view.word(start.word);
+        writeln!(to, "s{k} [shape=plaintext label=\"{kind}{word}\"];")?;
+    }
+    Ok(())
 }
 
 // What stands below them.
-pub fn put_bottom(
-    out: &mut [u8],
-    at: usize,
-    graph: &[u32],
-    state: &[u32],
-    wires: &[u32],
-    signed: bool,
-) -> usize
-    requires { at ≤ length out.old }
-    ensures { result ≤ length out.old }
-{
-    let n = put_results(out, at, graph, state, wires, signed);
-    text::put(out, n, b"}\n")
+pub fn write_bottom<W: Write>(to: &mut W, view: View<'_>) -> io::Result<()> {
+    for k in 0..view.graph.results() {
+        writeln!(to, "r{k} [shape=plaintext label=\"result {k}\"];")?;
+        write_edge(to, view, view.graph.result(k), "r", k)?;
+        to.write_all(b"];\n")?;
+    }
+    to.write_all(b"}\n")
 }
 
-// The whole drawing. A state of no words has no tokens. `nodes` and `wires` have three words for each name: what it is, its row, and of a copy
-// the value's row; without words there are no names.
-pub fn put_drawing(
-    out: &mut [u8],
-    at: usize,
-    graph: &[u32],
-    state: &[u32],
-    nodes: &[u32],
-    wires: &[u32],
-) -> usize
-    requires { at ≤ length out.old }
-    ensures { result ≤ length out.old }
-{
-    let a = put_top(out, at, graph, false);
-    let b = put_nodes(out, a, graph, state, nodes, wires, false);
-    put_bottom(out, b, graph, state, wires, false)
+// The whole drawing. A state of no words has no tokens.
+pub fn write_drawing<W: Write>(to: &mut W, view: View<'_>) -> io::Result<()> {
+    write_top(to, view)?;
+    for i in 0..view.graph.nodes() {
+        write_part(to, view, i)?;
+    }
+    write_bottom(to, view)
 }

@@ -1,8 +1,8 @@
 // The entries on graphs and states, called as standard input lists them: the sum graph, and damaged words of every refusal from 11 to 18.
 #![tactic(auto)]
 
-use channels::{INPUT, OUTPUT};
+use channels::Console;
 
 fn main(rt: HostRuntime) {
-    calls::serve(&rt, INPUT, OUTPUT);
+    calls::serve(&Console::new(&rt));
 }

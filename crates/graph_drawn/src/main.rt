@@ -1,29 +1,47 @@
 // Lists and draws the graph whose words standard input gives; behind semicolons the state's words, and the names of nodes and wires.
 #![tactic(auto)]
 
-use channels::{Channels, INPUT, OUTPUT};
+use arrayvec::ArrayVec;
+use channels::{Channel, Channels, Input};
+use drawn::{Graph, Names, State, View};
+use std::io;
+use std::io::Write;
+use text::Page;
 
-fn draw<R: Channels>(rt: &R, graph: &[u32], state: &[u32], nodes: &[u32], wires: &[u32]) {
-    let mut out = io::large_buffer();
-    let n = drawn::put_graph(&mut out, 0, graph);
-    let m = drawn::put_drawing(&mut out, n, graph, state, nodes, wires);
-    channels::tell(rt, OUTPUT, &out[..m]);
+fn write_view<W: Write>(to: &mut W, view: View<'_>) -> io::Result<()> {
+    drawn::write_graph(to, view.graph)?;
+    drawn::write_drawing(to, view)
+}
+
+// The words of a part of the text, as far as they can be read.
+fn words_of(text: &[u8], k: usize) -> ArrayVec<u32, 4096> {
+    let mut words = ArrayVec::new();
+    let _ = text::read_words(text::part(text, k), &mut words);
+    words
 }
 
 fn draw_text<R: Channels>(rt: &R, text: &[u8]) {
-    let mut graph = [0u32; 4096];
-    let mut state = [0u32; 4096];
-    let mut nodes = [0u32; 4096];
-    let mut wires = [0u32; 4096];
-    let g = text::words(text::part(text, 0), &mut graph).count;
-    let s = text::words(text::part(text, 1), &mut state).count;
-    let n = text::words(text::part(text, 2), &mut nodes).count;
-    let w = text::words(text::part(text, 3), &mut wires).count;
-    draw(rt, &graph[..g], &state[..s], &nodes[..n], &wires[..w]);
+    let graph = words_of(text, 0);
+    let state = words_of(text, 1);
+    let nodes = words_of(text, 2);
+    let wires = words_of(text, 3);
+    let view = View {
+        graph: Graph(graph.as_slice()),
+        state: State(state.as_slice()),
+        names: Names {
+            nodes: nodes.as_slice(),
+            wires: wires.as_slice(),
+        },
+        signed: false,
+    };
+    let mut memory = [0u8; 65536];
+    let mut page = Page::new(&mut memory);
+    let _ = write_view(&mut page, view);
+    channels::tell(rt, Channel::Output, page.as_slice());
 }
 
 fn main(rt: HostRuntime) {
-    let mut text = io::large_buffer();
-    let n = channels::read_full(&rt, INPUT, &mut text);
+    let mut text = [0u8; 65536];
+    let n = channels::read_full(&mut Input(&rt), &mut text);
     draw_text(&rt, &text[..n]);
 }

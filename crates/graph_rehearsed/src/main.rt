@@ -4,104 +4,79 @@
 
 ghost use Rattle.std.specs.Prelude.{◌≤◌};
 
-use channels::{Channels, INPUT, OUTPUT};
+use arrayvec::ArrayVec;
+use channels::{Channel, Channels, Console, Input};
+use drawn::{Graph, Names, State, View};
+use text::Page;
 use traced::How;
 
 fn rehearse<R: Channels>(
-    rt: &R,
+    how: &How<'_, R>,
     graph: &[u32],
-    nodes: &[u32],
-    wires: &[u32],
     inputs: &[u32],
     state: &mut [u32],
     allowance: u64,
-    trace: bool,
-    signed: bool,
 ) {
-    let how = How {
-        trace,
-        signed,
-        to: OUTPUT,
-        err: OUTPUT,
+    let ran = rehearsal::run_graph(how, graph, inputs, state, &[], allowance);
+    let mut memory = [0u8; 65536];
+    let mut page = Page::new(&mut memory);
+    let view = View {
+        graph: Graph(graph),
+        state: State(state),
+        names: how.names,
+        signed: how.signed,
     };
-    let mut out = io::large_buffer();
-    let told = rehearsal::run_graph(
-        rt,
-        graph,
-        nodes,
-        wires,
-        inputs,
-        state,
-        &[],
-        allowance,
-        how,
-        &mut out,
-    );
-    let n = told.count;
-    channels::tell(rt, OUTPUT, &out[..n]);
+    let _ = match ran {
+        Ok(ran) => rehearsal::write_ran(&mut page, view, ran),
+        Err(why) => rehearsal::write_refused(&mut page, why, Graph(graph), inputs.len()),
+    };
+    let _ = how.console.answer(page.as_slice());
 }
 
-fn rehearse_thrice<R: Channels>(
-    rt: &R,
-    graph: &[u32],
-    nodes: &[u32],
-    wires: &[u32],
-    inputs: &[u32],
-    state: &mut [u32],
-    signed: bool,
-) {
-    rehearse(rt, graph, nodes, wires, inputs, state, 1000, false, signed);
-    rehearse(rt, graph, nodes, wires, inputs, state, 1000, true, signed);
-    rehearse(rt, graph, nodes, wires, inputs, state, 30, false, signed);
+// The words of a part of the text, as far as they can be read.
+fn words_of(text: &[u8], k: usize) -> ArrayVec<u32, 4096> {
+    let mut words = ArrayVec::new();
+    let _ = text::read_words(text::part(text, k), &mut words);
+    words
 }
 
-fn rehearse_named<R: Channels>(
-    rt: &R,
-    text: &[u8],
-    from: usize,
-    graph: &[u32],
-    inputs: &[u32],
-    state: &mut [u32],
-    signed: bool,
-)
-    requires { from ≤ 5 }
+// The graph whose first part is part k of the text.
+fn rehearse_text<R: Channels>(console: &Console<'_, R>, text: &[u8], k: usize, signed: bool)
+    requires { k ≤ 5 }
 {
-    let mut nodes = [0u32; 4096];
-    let mut wires = [0u32; 4096];
-    let n = text::words(text::part(text, from + 3), &mut nodes);
-    let w = text::words(text::part(text, from + 4), &mut wires);
-    let i = n.count;
-    let k = w.count;
-    rehearse_thrice(rt, graph, &nodes[..i], &wires[..k], inputs, state, signed);
-}
-
-// The graph whose first part is part `from` of the text.
-fn rehearse_text<R: Channels>(rt: &R, text: &[u8], from: usize, signed: bool)
-    requires { from ≤ 5 }
-{
-    let mut graph = [0u32; 4096];
-    let mut inputs = [0u32; 512];
-    let mut state = [0u32; 4096];
-    let g = text::words(text::part(text, from), &mut graph);
-    let i = text::words(text::part(text, from + 1), &mut inputs);
-    let s = text::words(text::part(text, from + 2), &mut state);
-    let n = g.count;
-    let m = i.count;
-    let k = s.count;
-    rehearse_named(
-        rt,
-        text,
-        from,
-        &graph[..n],
-        &inputs[..m],
-        &mut state[..k],
-        signed,
-    );
+    let graph = words_of(text, k);
+    let inputs = words_of(text, k + 1);
+    let mut state = words_of(text, k + 2);
+    let nodes = words_of(text, k + 3);
+    let wires = words_of(text, k + 4);
+    for (trace, allowance) in [(false, 1000), (true, 1000), (false, 30)] {
+        let how = How {
+            console,
+            names: Names {
+                nodes: nodes.as_slice(),
+                wires: wires.as_slice(),
+            },
+            trace,
+            signed,
+        };
+        rehearse(
+            &how,
+            graph.as_slice(),
+            inputs.as_slice(),
+            state.as_mut_slice(),
+            allowance,
+        );
+    }
 }
 
 fn main(rt: HostRuntime) {
-    let mut text = io::large_buffer();
-    let n = channels::read_full(&rt, INPUT, &mut text);
-    rehearse_text(&rt, &text[..n], 0, false);
-    rehearse_text(&rt, &text[..n], 5, true);
+    let mut text = [0u8; 65536];
+    let count = channels::read_full(&mut Input(&rt), &mut text);
+    let console = Console {
+        rt: &rt,
+        answers: Channel::Output,
+        complaints: Channel::Output,
+    };
+    rehearse_text(&console, &text[..count], 0, false);
+    rehearse_text(&console, &text[..count], 5, true);
 }

@@ -2,88 +2,100 @@
 // answer, its row or rule, and its turns; the words of a graph; those of a state; the results of the reading.
 #![tactic(auto)]
 
-ghost use Rattle.std.specs.Prelude.{◌≤◌, ◌<◌};
+ghost use Rattle.std.specs.Prelude.{◌<◌};
 
-use channels::{Channels, INPUT, OUTPUT};
+use arrayvec::ArrayVec;
+use channels::{Channel, Channels, Input};
+use drawn::{Graph, Names, State, View, word_at};
 use engine::Plain;
+use readings::Held;
+use refusal::{Refusal, Refused};
+use text::Page;
+use told::Answer;
 
-fn plain_of(answer: u32, row: u32, turns: u32) -> Plain {
+// The rules that refuse a reading.
+const RULES: [Refusal; 11] = [
+    Refusal::Length,
+    Refusal::Kind,
+    Refusal::Spare,
+    Refusal::Code,
+    Refusal::Place,
+    Refusal::Depth,
+    Refusal::Name,
+    Refusal::Type,
+    Refusal::Open,
+    Refusal::Room,
+    Refusal::Inputs,
+];
+
+fn answer_of(answer: u32) -> Answer {
     match answer {
-        0 => Plain::Ended(turns as u64),
-        1 => Plain::ZeroStep(row, turns as u64),
-        3 => Plain::Spent(turns as u64),
-        _ => Plain::Refused(row, 0),
+        0 => Answer::Complete,
+        1 => Answer::ZeroStep,
+        2 => Answer::Stranded,
+        _ => Answer::Spent,
     }
 }
 
-fn tell<R: Channels>(
-    rt: &R,
-    answer: u32,
-    plain: Plain,
-    graph: &[u32],
-    state: &[u32],
-    results: &[u32],
-    signed: bool,
-) {
-    let mut out = io::large_buffer();
-    let held = readings::put_held(&mut out, answer, graph, state, plain, results, signed);
-    let n = held.count;
-    channels::tell(rt, OUTPUT, &out[..n]);
-}
-
-fn tell_ends<R: Channels>(
-    rt: &R,
-    text: &[u8],
-    at: usize,
-    graph: &[u32],
-    state: &[u32],
-    results: &[u32],
-)
-    requires { at < 1000 }
-{
-    let mut run = [0u32; 2];
-    let mut reading = [0u32; 3];
-    text::words(text::part(text, at), &mut run);
-    text::words(text::part(text, at + 1), &mut reading);
-    let plain = plain_of(reading[0], reading[1], reading[2]);
-    tell(rt, run[0], plain, graph, state, results, run[1] == 1);
-}
-
-fn tell_case<R: Channels>(rt: &R, text: &[u8], at: usize)
-    requires { at < 1000 }
-{
-    let mut graph = [0u32; 256];
-    let mut state = [0u32; 256];
-    let mut results = [0u32; 8];
-    let g = text::words(text::part(text, at + 2), &mut graph);
-    let s = text::words(text::part(text, at + 3), &mut state);
-    let r = text::words(text::part(text, at + 4), &mut results);
-    let n = g.count;
-    let k = s.count;
-    let m = r.count;
-    tell_ends(rt, text, at, &graph[..n], &state[..k], &results[..m]);
-}
-
-fn least(a: usize, b: usize) -> usize
-    ensures { result ≤ b }
-{
-    if a < b {
-        return a;
+fn plain_of(answer: u32, row: u32, turns: u64) -> Result<Plain, Refused> {
+    match answer {
+        0 => Ok(Plain::Ended(turns)),
+        1 => Ok(Plain::ZeroStep { row, turns }),
+        3 => Ok(Plain::Spent(turns)),
+        _ => Err(Refused {
+            why: RULES
+                .into_iter()
+                .find(|rule| rule.number() == row)
+                .unwrap_or(Refusal::Inputs),
+            row: 0,
+        }),
     }
-    b
 }
 
-fn tell_cases<R: Channels>(rt: &R, text: &[u8]) {
-    let cases = least(text::marks(text, b';') / 5, 100);
-    let mut k: usize = 0;
-    while k < cases {
-        tell_case(rt, text, 5 * k);
-        k += 1;
-    }
+// The words of a part of the text, as far as they can be read and there is room for them.
+fn words_of<const N: usize>(text: &[u8], k: usize) -> ArrayVec<u32, N> {
+    let mut words = ArrayVec::new();
+    let _ = text::read_words(text::part(text, k), &mut words);
+    words
+}
+
+// The case whose first part is part k.
+fn tell_case<R: Channels>(rt: &R, text: &[u8], k: usize)
+    requires { k < 1000 }
+{
+    let run = words_of::<2>(text, k);
+    let reading = words_of::<3>(text, k + 1);
+    let graph = words_of::<256>(text, k + 2);
+    let state = words_of::<256>(text, k + 3);
+    let results = words_of::<8>(text, k + 4);
+    let [run, signed] = [0, 1].map(|i| word_at(run.as_slice(), i));
+    let [answer, row, turns] = [0, 1, 2].map(|i| word_at(reading.as_slice(), i));
+    let held = Held {
+        answer: answer_of(run),
+        view: View {
+            graph: Graph(graph.as_slice()),
+            state: State(state.as_slice()),
+            names: Names {
+                nodes: &[],
+                wires: &[],
+            },
+            signed: signed == 1,
+        },
+        plain: plain_of(answer, row, turns as u64),
+        results: results.as_slice(),
+    };
+    let mut memory = [0u8; 65536];
+    let mut page = Page::new(&mut memory);
+    let _ = held.write(&mut page);
+    channels::tell(rt, Channel::Output, page.as_slice());
 }
 
 fn main(rt: HostRuntime) {
-    let mut text = io::large_buffer();
-    let n = channels::read_full(&rt, INPUT, &mut text);
-    tell_cases(&rt, &text[..n]);
+    let mut text = [0u8; 65536];
+    let count = channels::read_full(&mut Input(&rt), &mut text);
+    let text = &text[..count];
+    let cases = (text::marks(text, b';') / 5).min(100);
+    for case in 0..cases {
+        tell_case(&rt, text, 5 * case);
+    }
 }

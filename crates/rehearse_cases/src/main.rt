@@ -2,78 +2,48 @@
 // Spaces stand between arguments. A line that starts with # is written as it is; an empty one is left out.
 #![tactic(auto)]
 
-ghost use Rattle.std.specs.Prelude.{◌≤◌, ◌<◌, length};
-
-use channels::{Channels, INPUT, OUTPUT};
+use arrayvec::ArrayVec;
+use channels::{Channel, Channels, Console, Input};
 use std::rt::Files;
 
-fn spaced(b: u8) -> u8 {
-    if b == b' ' {
-        return 0;
-    }
-    b
+fn spaced(letter: u8) -> u8 {
+    if letter == b' ' { 0 } else { letter }
 }
 
-// The arguments of a line: a 0 for each space, and one at the end.
-fn put_arguments(out: &mut [u8], line: &[u8]) -> usize
-    ensures { result ≤ length out.old }
-{
-    let mut n: usize = 0;
-    let mut i: usize = 0;
-    while i < line.len() {
-        n = text::put_letter(out, n, spaced(line[i]));
-        i += 1;
-    }
-    text::put_letter(out, n, 0)
+fn show<R: Channels>(console: &Console<'_, R>, line: &[u8]) {
+    let _ = console.answer(line);
+    let _ = console.answer(b"\n");
 }
 
-fn show<R: Channels>(rt: &R, line: &[u8]) {
-    channels::tell(rt, OUTPUT, b"$ rehearse ");
-    channels::tell(rt, OUTPUT, line);
-    channels::tell(rt, OUTPUT, b"\n");
+// The arguments of a line: a 0 for each space, and one at the end. Letters for which there is no room are left out.
+fn obey<R: Channels + Files>(console: &Console<'_, R>, line: &[u8]) {
+    let mut arguments = ArrayVec::<u8, 4096>::new();
+    let _ = arguments.extend(line.iter().map(|letter| spaced(*letter)));
+    let _ = arguments.try_push(0);
+    commands::obey(console, arguments.as_slice());
 }
 
-fn obey<R: Channels + Files>(rt: &R, line: &[u8]) {
-    show(rt, line);
-    let mut text = io::buffer();
-    let n = put_arguments(&mut text, line);
-    commands::obey(rt, &text[..n], OUTPUT, OUTPUT);
-}
-
-fn try_line<R: Channels + Files>(rt: &R, line: &[u8]) {
-    if line.len() == 0 {
-        return;
-    }
-    if line[0] == b'#' {
-        channels::tell(rt, OUTPUT, line);
-        channels::tell(rt, OUTPUT, b"\n");
-        return;
-    }
-    obey(rt, line);
-}
-
-// Tries the line that starts at `from`; where the next one starts.
-fn try_one<R: Channels + Files>(rt: &R, text: &[u8], from: usize) -> usize
-    requires { from < length text.now }
-    ensures { (from < result) × (result ≤ length text.now) }
-{
-    let e = text::end_of(text, from, b'\n');
-    try_line(rt, &text[from..e]);
-    if e < text.len() {
-        return e + 1;
-    }
-    e
-}
-
-fn try_lines<R: Channels + Files>(rt: &R, text: &[u8]) {
-    let mut at: usize = 0;
-    while at < text.len() {
-        at = try_one(rt, text, at);
+fn try_line<R: Channels + Files>(console: &Console<'_, R>, line: &[u8]) {
+    match line {
+        [] => {}
+        [b'#', ..] => show(console, line),
+        _ => {
+            let _ = console.answer(b"$ rehearse ");
+            show(console, line);
+            obey(console, line);
+        }
     }
 }
 
 fn main(rt: HostRuntime) {
-    let mut text = io::large_buffer();
-    let n = channels::read_full(&rt, INPUT, &mut text);
-    try_lines(&rt, &text[..n]);
+    let mut text = [0u8; 65536];
+    let count = channels::read_full(&mut Input(&rt), &mut text);
+    let console = Console {
+        rt: &rt,
+        answers: Channel::Output,
+        complaints: Channel::Output,
+    };
+    for line in text[..count].split(|letter| *letter == b'\n') {
+        try_line(&console, line);
+    }
 }

@@ -1,346 +1,117 @@
 // What a run has left on the wires and in the records: the tokens that stand, who waits for what, and the loops that are open.
-// Nodes and wires have their rows and roles beside them, by the names of `roles`. `signed` tells words with a sign.
+// Nodes and wires have their rows and roles beside them, by the names of `roles`.
 #![tactic(auto)]
 
-ghost use Rattle.std.specs.Prelude.{◌≤◌, ◌<◌, ◌+◌, length};
+use drawn::{Node, View, word_at};
+use std::io;
+use std::io::Write;
+use told::Condition;
 
 // Tokens.
 
-fn is_full(state: &[u32], w: usize) -> bool
-    requires { w ≤ 8192 }
-{
-    drawn::word_at(state, 2 * w) != 0
-}
-
-fn one_more(state: &[u32], w: usize, tokens: usize) -> usize
-    requires { (w ≤ 8192) × (tokens ≤ w) }
-    ensures { result ≤ w + 1 }
-{
-    if is_full(state, w) {
-        return tokens + 1;
-    }
-    tokens
-}
-
 // How many tokens stand on wires.
-pub fn tokens(graph: &[u32], state: &[u32]) -> usize
-    ensures { result ≤ 8192 }
-{
-    let wires = drawn::count_at(graph, 1);
-    let mut n: usize = 0;
-    let mut w: usize = 0;
-    while w < wires {
-        n = one_more(state, w, n);
-        w += 1;
-    }
-    n
+pub fn tokens(view: View<'_>) -> usize {
+    (0..view.graph.wires())
+        .filter(|wire| view.state.token(*wire).is_some())
+        .count()
 }
 
-// Whether node i reads a wire by its input k.
-fn reads_by(graph: &[u32], i: usize, k: usize, wire: u32) -> bool
-    requires { (i ≤ 8192) × (k < 3) }
-{
-    if (k as u32) < graph::inputs_of(drawn::row_word(graph, i, 0)) {
-        return drawn::row_word(graph, i, 3 + k) == wire;
-    }
-    false
-}
-
-fn reads(graph: &[u32], i: usize, wire: u32) -> bool
-    requires { i ≤ 8192 }
-{
-    if reads_by(graph, i, 0, wire) {
-        return true;
-    }
-    if reads_by(graph, i, 1, wire) {
-        return true;
-    }
-    reads_by(graph, i, 2, wire)
-}
-
-// The node that reads a wire, or the number of nodes where none does: then it is a result.
-fn reader_of(graph: &[u32], wire: u32) -> usize
-    ensures { result ≤ 8192 }
-{
-    let nodes = drawn::count_at(graph, 0);
-    let mut i: usize = 0;
-    while i < nodes {
-        if reads(graph, i, wire) {
-            return i;
-        }
-        i += 1;
-    }
-    i
-}
-
-// Input k of node i, where it has one and no token stands there.
-fn put_lacking(
-    out: &mut [u8],
-    at: usize,
-    graph: &[u32],
-    state: &[u32],
-    wires: &[u32],
-    i: usize,
-    k: usize,
-) -> usize
-    requires { (at ≤ length out.old) × (i ≤ 8192) × (k < 3) }
-    ensures { result ≤ length out.old }
-{
-    let wire = drawn::row_word(graph, i, 3 + k);
-    if reads_by(graph, i, k, wire) {
-        if drawn::word_at(state, 2 * (wire as usize)) == 0 {
-            return roles::put_wire(out, at, wires, wire);
+// The node that reads a wire; where none does, it is a result.
+fn reader_of(view: View<'_>, wire: u32) -> Option<Node> {
+    for i in 0..view.graph.nodes() {
+        let node = view.graph.node(i);
+        if node.inputs().contains(&wire) {
+            return Some(node);
         }
     }
-    at
-}
-
-// Where nothing was put, the word none.
-fn put_none(out: &mut [u8], before: usize, at: usize) -> usize
-    requires { at ≤ length out.old }
-    ensures { result ≤ length out.old }
-{
-    if before == at {
-        return text::put(out, at, b" none");
-    }
-    at
-}
-
-// The inputs of node i on which no token stands.
-fn put_lacks(
-    out: &mut [u8],
-    at: usize,
-    graph: &[u32],
-    state: &[u32],
-    wires: &[u32],
-    i: usize,
-) -> usize
-    requires { (at ≤ length out.old) × (i ≤ 8192) }
-    ensures { result ≤ length out.old }
-{
-    let a = put_lacking(out, at, graph, state, wires, i, 0);
-    let b = put_lacking(out, a, graph, state, wires, i, 1);
-    let c = put_lacking(out, b, graph, state, wires, i, 2);
-    put_none(out, at, c)
+    None
 }
 
 // The reader of a wire, and its inputs on which no token stands.
-fn put_waiting(
-    out: &mut [u8],
-    at: usize,
-    graph: &[u32],
-    state: &[u32],
-    nodes: &[u32],
-    wires: &[u32],
-    i: usize,
-) -> usize
-    requires { (at ≤ length out.old) × (i ≤ 8192) }
-    ensures { result ≤ length out.old }
-{
-    let a = text::put(out, at, b" waits at ");
-    let b = roles::put_node(out, a, graph, nodes, i);
-    let c = text::put(out, b, b", inputs without a token:");
-    put_lacks(out, c, graph, state, wires, i)
+fn write_waiting<W: Write>(to: &mut W, view: View<'_>, node: Node) -> io::Result<()> {
+    let named = roles::Node::new(view, node);
+    write!(to, " waits at {named}, inputs without a token:")?;
+    let mut lacks = false;
+    for wire in node.inputs() {
+        if view.state.token(*wire).is_none() {
+            let wire = roles::Wire::new(view, *wire);
+            write!(to, "{wire}")?;
+            lacks = true;
+        }
+    }
+    if lacks {
+        return Ok(());
+    }
+    to.write_all(b" none")
 }
 
-fn put_reader(
-    out: &mut [u8],
-    at: usize,
-    graph: &[u32],
-    state: &[u32],
-    nodes: &[u32],
-    wires: &[u32],
-    wire: u32,
-) -> usize
-    requires { at ≤ length out.old }
-    ensures { result ≤ length out.old }
-{
-    let i = reader_of(graph, wire);
-    if i < drawn::count_at(graph, 0) {
-        return put_waiting(out, at, graph, state, nodes, wires, i);
+// A line for a wire and the token that stands on it.
+fn write_token<W: Write>(to: &mut W, view: View<'_>, wire: u32, word: u32) -> io::Result<()> {
+    let token = roles::Token::new(view, wire, word);
+    write!(to, "token{token}")?;
+    match reader_of(view, wire) {
+        Some(node) => write_waiting(to, view, node)?,
+        None => to.write_all(b" is a result")?,
     }
-    text::put(out, at, b" is a result")
-}
-
-// A line for wire w, where a token stands on it.
-fn put_standing(
-    out: &mut [u8],
-    at: usize,
-    graph: &[u32],
-    state: &[u32],
-    nodes: &[u32],
-    wires: &[u32],
-    w: usize,
-    signed: bool,
-) -> usize
-    requires { (at ≤ length out.old) × (w ≤ 8192) }
-    ensures { result ≤ length out.old }
-{
-    if is_full(state, w) {
-        let wire = w as u32;
-        let a = text::put(out, at, b"token");
-        let word = drawn::word_at(state, 2 * w + 1);
-        let b = roles::put_token(out, a, wires, wire, word, signed);
-        let c = put_reader(out, b, graph, state, nodes, wires, wire);
-        return text::put_letter(out, c, b'\n');
-    }
-    at
+    to.write_all(b"\n")
 }
 
 // Each token that stands, a line each, with the node that reads its wire and what that node lacks.
-pub fn put_tokens(
-    out: &mut [u8],
-    at: usize,
-    graph: &[u32],
-    state: &[u32],
-    nodes: &[u32],
-    wires: &[u32],
-    signed: bool,
-) -> usize
-    requires { at ≤ length out.old }
-    ensures { result ≤ length out.old }
-{
-    let count = drawn::count_at(graph, 1);
-    let mut n = at;
-    let mut w: usize = 0;
-    while w < count {
-        n = put_standing(out, n, graph, state, nodes, wires, w, signed);
-        w += 1;
+pub fn write_tokens<W: Write>(to: &mut W, view: View<'_>) -> io::Result<()> {
+    for wire in 0..view.graph.wires() {
+        if let Some(word) = view.state.token(wire) {
+            write_token(to, view, wire, word)?;
+        }
     }
-    n
+    Ok(())
 }
 
 // Loops.
 
-// Word k of node i's record: its phase, then its registers.
-fn record_word(graph: &[u32], state: &[u32], i: usize, k: usize) -> u32
-    requires { (i ≤ 8192) × (k < 4) }
-{
-    drawn::word_at(state, 2 * drawn::count_at(graph, 1) + 4 * i + k)
+// A node's record: its phase, then its registers.
+fn record(view: View<'_>, i: u32) -> [u32; 4] {
+    let place = 2 * view.graph.wires() as usize + 4 * i as usize;
+    let words = view.state.0;
+    [
+        word_at(words, place),
+        word_at(words, place + 1),
+        word_at(words, place + 2),
+        word_at(words, place + 3),
+    ]
 }
 
-// A STREAM that has taken its index, step and bound, and has not given its last condition.
-fn is_open(graph: &[u32], state: &[u32], i: usize) -> bool
-    requires { i ≤ 8192 }
-{
-    if drawn::row_word(graph, i, 0) == 0 {
-        return record_word(graph, state, i, 0) == 1;
+// Each loop that is open, a line each: a STREAM that has taken its index, step and bound, and has not given its last condition; and what it asks to go on.
+fn write_loops<W: Write>(to: &mut W, view: View<'_>) -> io::Result<()> {
+    for i in 0..view.graph.nodes() {
+        let node = view.graph.node(i);
+        let [phase, index, step, bound] = record(view, i);
+        if node.kind == 0 && phase == 1 {
+            let named = roles::Node::new(view, node);
+            let index = view.word(index);
+            let step = view.word(step);
+            let bound = view.word(bound);
+            let condition = Condition(node.code % 5);
+            writeln!(
+                to,
+                "open loop: {named}: index {index}, step {step}, bound {bound}, goes on while index {condition} bound"
+            )?;
+        }
     }
-    false
-}
-
-fn put_register(out: &mut [u8], at: usize, name: &[u8], word: u32, signed: bool) -> usize
-    requires { at ≤ length out.old }
-    ensures { result ≤ length out.old }
-{
-    let n = text::put(out, at, name);
-    text::put_word(out, n, word, signed)
-}
-
-fn put_condition(out: &mut [u8], at: usize, code: u32) -> usize
-    requires { at ≤ length out.old }
-    ensures { result ≤ length out.old }
-{
-    let a = text::put(out, at, b", goes on while index ");
-    let b = text::put(out, a, text::part(b"<;<=;>;>=;!=", (code % 5) as usize));
-    text::put(out, b, b" bound\n")
-}
-
-// Index, step and bound of an open loop, and what it asks to go on.
-fn put_registers(
-    out: &mut [u8],
-    at: usize,
-    graph: &[u32],
-    state: &[u32],
-    i: usize,
-    signed: bool,
-) -> usize
-    requires { (at ≤ length out.old) × (i ≤ 8192) }
-    ensures { result ≤ length out.old }
-{
-    let index = record_word(graph, state, i, 1);
-    let step = record_word(graph, state, i, 2);
-    let bound = record_word(graph, state, i, 3);
-    let a = put_register(out, at, b": index ", index, signed);
-    let b = put_register(out, a, b", step ", step, signed);
-    let c = put_register(out, b, b", bound ", bound, signed);
-    put_condition(out, c, drawn::row_word(graph, i, 1))
-}
-
-fn put_open(
-    out: &mut [u8],
-    at: usize,
-    graph: &[u32],
-    state: &[u32],
-    nodes: &[u32],
-    i: usize,
-    signed: bool,
-) -> usize
-    requires { (at ≤ length out.old) × (i ≤ 8192) }
-    ensures { result ≤ length out.old }
-{
-    if is_open(graph, state, i) {
-        let a = text::put(out, at, b"open loop: ");
-        let b = roles::put_node(out, a, graph, nodes, i);
-        return put_registers(out, b, graph, state, i, signed);
-    }
-    at
-}
-
-// Each loop that is open, a line each.
-pub fn put_loops(
-    out: &mut [u8],
-    at: usize,
-    graph: &[u32],
-    state: &[u32],
-    nodes: &[u32],
-    signed: bool,
-) -> usize
-    requires { at ≤ length out.old }
-    ensures { result ≤ length out.old }
-{
-    let count = drawn::count_at(graph, 0);
-    let mut n = at;
-    let mut i: usize = 0;
-    while i < count {
-        n = put_open(out, n, graph, state, nodes, i, signed);
-        i += 1;
-    }
-    n
+    Ok(())
 }
 
 // What a spent allowance leaves.
-pub fn put_spent(
-    out: &mut [u8],
-    at: usize,
-    graph: &[u32],
-    state: &[u32],
-    nodes: &[u32],
-    signed: bool,
-) -> usize
-    requires { at ≤ length out.old }
-    ensures { result ≤ length out.old }
-{
-    let a = text::put(
-        out,
-        at,
-        b"the allowance is spent and the results are not final; tokens on wires:",
-    );
-    let b = text::put_next(out, a, tokens(graph, state) as u64);
-    let c = text::put(
-        out,
-        b,
-        b"; a larger --allowance helps where an index moves towards its bound\n",
-    );
-    put_loops(out, c, graph, state, nodes, signed)
+pub fn write_spent<W: Write>(to: &mut W, view: View<'_>) -> io::Result<()> {
+    let tokens = tokens(view);
+    write!(
+        to,
+        "the allowance is spent and the results are not final; tokens on wires: {tokens}; a larger --allowance helps where an index moves towards its bound\n"
+    )?;
+    write_loops(to, view)
 }
 
 // Whose step is 0: the wire that it came by.
-pub fn put_zero_step(out: &mut [u8], at: usize, graph: &[u32], wires: &[u32], i: usize) -> usize
-    requires { (at ≤ length out.old) × (i ≤ 8192) }
-    ensures { result ≤ length out.old }
-{
-    let a = text::put(out, at, b"its step is the word 0 on wire");
-    let b = roles::put_wire(out, a, wires, drawn::row_word(graph, i, 4));
-    text::put_letter(out, b, b'\n')
+pub fn write_zero_step<W: Write>(to: &mut W, view: View<'_>, i: u32) -> io::Result<()> {
+    let wire = roles::Wire::new(view, view.graph.node(i).takes[1]);
+    writeln!(to, "its step is the word 0 on wire{wire}")
 }

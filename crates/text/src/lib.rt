@@ -1,410 +1,241 @@
-// Words as people type them: decimal numbers in a text, read into lent words, and put into a lent answer.
+// Words as people type them: decimal numbers in a text, read into fixed memory, parts of a line, and words as they are told.
+// What is told is written to an `io::Write`, mostly to a page of fixed memory.
 #![tactic(auto)]
 
-ghost use Rattle.std.specs.Prelude.{◌≤◌, ◌<◌, length};
+use arrayvec::ArrayVec;
+use std::io::{Cursor, Write};
+use std::{fmt, io};
 
-// What can be wrong with a text; 0 is nothing.
+// What can be wrong with a text.
+#[derive(Clone, Copy, Debug, PartialEq, Eq)]
+pub enum Problem {
+    // A letter that is no digit, no space and no part's end.
+    Letter,
+    // A number that is over what it may be.
+    Large,
+    // More words than there is room for.
+    Many,
+    // No number, or two, where one is wanted.
+    Single,
+}
 
-// A letter that is no digit, no space and no part's end.
-pub const LETTER: u32 = 1;
-
-// A number that is over what it may be.
-pub const LARGE: u32 = 2;
-
-// More words than there is room for.
-pub const MANY: u32 = 3;
-
-// No number, or two, where one is wanted.
-pub const SINGLE: u32 = 4;
-
-pub const MOST_WORD: u64 = 4294967295;
+impl fmt::Display for Problem {
+    fn fmt<W: fmt::Write>(&self, f: &mut fmt::Formatter<W>) -> fmt::Result {
+        f.write_str(match self {
+            Problem::Letter => "a letter that is no digit, space or semicolon",
+            Problem::Large => "a number that is too large",
+            Problem::Many => "more words in a list than there is room for",
+            Problem::Single => "one number belongs before the first semicolon",
+        })
+    }
+}
 
 // The most that a word is below 0.
 pub const MOST_BELOW: u64 = 2147483648;
 
-// The largest 64-bit number without its last digit, 5.
-const MOST_TENTH: u64 = 1844674407370955161;
-
-// Where the reading of words stands: those kept, the number that is being read, whether one is, and what was wrong first.
-#[derive(Clone, Copy)]
-pub struct Scan {
-    pub count: usize,
-    pub value: u64,
-    pub open: bool,
-    pub problem: u32,
+// One more digit behind a number. What is past the largest stays there, and so past every word.
+pub fn longer(value: u64, digit: u8) -> u64 {
+    value.saturating_mul(10).saturating_add(digit as u64)
 }
 
-fn spoiled(s: Scan, problem: u32) -> Scan
-    ensures { result.count ≤ s.count }
-{
-    if s.problem != 0 {
-        return s;
-    }
-    Scan {
-        count: s.count,
-        value: 0,
-        open: false,
-        problem,
-    }
+// Where the reading of words stands: the number that is being read, and what was wrong first.
+#[derive(Drop)]
+struct Reading {
+    value: Option<u64>,
+    problem: Option<Problem>,
 }
 
-pub fn is_digit(b: u8) -> bool {
-    match b {
-        48..=57 => true,
-        _ => false,
-    }
-}
-
-// One more digit. What is past the largest word stays just past it.
-fn longer(value: u64, digit: u8) -> u64 {
-    if value < 429496730 {
-        return value * 10 + digit as u64;
-    }
-    MOST_WORD + 1
-}
-
-fn lengthened(s: Scan, digit: u8) -> Scan
-    ensures { result.count ≤ s.count }
-{
-    Scan {
-        count: s.count,
-        value: longer(s.value, digit),
-        open: true,
-        problem: s.problem,
-    }
-}
-
-// A number's end: the word is kept.
-fn keep(out: &mut [u32], s: Scan) -> Scan
-    requires { s.count ≤ length out.old }
-    ensures { result.count ≤ length out.old }
-{
-    if s.open {
-        let value = s.value;
-        if MOST_WORD < value {
-            return spoiled(s, LARGE);
+impl Reading {
+    fn spoil(&mut self, problem: Problem) {
+        if self.problem.is_none() {
+            self.problem = Some(problem);
+            self.value = None;
         }
-        let n = s.count;
-        if n < out.len() {
-            out[n] = value as u32;
-            return Scan {
-                count: n + 1,
-                value: 0,
-                open: false,
-                problem: s.problem,
-            };
+    }
+
+    // A number's end: the word is kept.
+    fn keep<const N: usize>(&mut self, words: &mut ArrayVec<u32, N>) {
+        if let Some(value) = self.value {
+            match u32::try_from(value) {
+                Ok(word) => match words.try_push(word) {
+                    Ok(()) => self.value = None,
+                    Err(_) => self.spoil(Problem::Many),
+                },
+                Err(_) => self.spoil(Problem::Large),
+            }
         }
-        return spoiled(s, MANY);
     }
-    s
-}
 
-fn letter(out: &mut [u32], s: Scan, b: u8) -> Scan
-    requires { s.count ≤ length out.old }
-    ensures { result.count ≤ length out.old }
-{
-    match b {
-        48..=57 => lengthened(s, b - 48),
-        9..=13 => keep(out, s),
-        32 => keep(out, s),
-        _ => spoiled(s, LETTER),
+    fn letter<const N: usize>(&mut self, words: &mut ArrayVec<u32, N>, letter: u8) {
+        match letter {
+            b'0'..=b'9' => self.value = Some(longer(self.value.unwrap_or(0), letter - b'0')),
+            b'\t'..=b'\r' | b' ' => self.keep(words),
+            _ => self.spoil(Problem::Letter),
+        }
     }
 }
 
-// The words of a text.
-pub fn words(text: &[u8], out: &mut [u32]) -> Scan
-    ensures { result.count ≤ length out.old }
-{
-    let mut s = Scan {
-        count: 0,
-        value: 0,
-        open: false,
-        problem: 0,
+// Puts the words of a text behind those that are there. Where something is wrong, the words are those that could be read.
+pub fn read_words<const N: usize>(
+    text: &[u8],
+    words: &mut ArrayVec<u32, N>,
+) -> Result<(), Problem> {
+    let mut reading = Reading {
+        value: None,
+        problem: None,
     };
-    let mut i: usize = 0;
-    while i < text.len() {
-        s = letter(out, s, text[i]);
-        i += 1;
+    for letter in text {
+        reading.letter(words, *letter);
     }
-    keep(out, s)
+    reading.keep(words);
+    match reading.problem {
+        None => Ok(()),
+        Some(problem) => Err(problem),
+    }
 }
 
-// A single number of 64 bits: where its reading stands, before it, 0, in it, 1, or behind it, 2.
-#[derive(Clone, Copy)]
-pub struct Single {
-    pub value: u64,
-    pub place: u32,
-    pub problem: u32,
+// Where the reading of a single number stands.
+#[derive(Clone, Copy, PartialEq, Eq)]
+enum Place {
+    Before,
+    Within,
+    Behind,
 }
 
-fn number_digit(n: Single, digit: u8) -> Single
-    requires { digit < 10 }
-{
-    let place = n.place;
-    if 1 < place {
-        return Single {
-            value: 0,
-            place,
-            problem: SINGLE,
-        };
+#[derive(Drop)]
+struct Single {
+    value: u64,
+    place: Place,
+    problem: Option<Problem>,
+}
+
+impl Single {
+    fn spoil(&mut self, problem: Problem) {
+        self.value = 0;
+        self.problem = Some(problem);
     }
-    let value = n.value;
-    if value < MOST_TENTH {
-        return Single {
-            value: value * 10 + digit as u64,
-            place: 1,
-            problem: n.problem,
-        };
-    }
-    if value == MOST_TENTH {
-        if digit < 6 {
-            return Single {
-                value: value * 10 + digit as u64,
-                place: 1,
-                problem: n.problem,
-            };
+
+    fn digit(&mut self, digit: u8) {
+        if self.place == Place::Behind {
+            return self.spoil(Problem::Single);
+        }
+        self.place = Place::Within;
+        match self.value.checked_mul(10) {
+            Some(tens) => match tens.checked_add(digit as u64) {
+                Some(value) => self.value = value,
+                None => self.spoil(Problem::Large),
+            },
+            None => self.spoil(Problem::Large),
         }
     }
-    Single {
-        value: 0,
-        place: 1,
-        problem: LARGE,
-    }
-}
 
-fn number_space(n: Single) -> Single {
-    if n.place == 1 {
-        return Single {
-            value: n.value,
-            place: 2,
-            problem: n.problem,
-        };
-    }
-    n
-}
-
-fn number_letter(n: Single, b: u8) -> Single {
-    match b {
-        48..=57 => number_digit(n, b - 48),
-        9..=13 => number_space(n),
-        32 => number_space(n),
-        _ => Single {
-            value: 0,
-            place: 1,
-            problem: LETTER,
-        },
-    }
-}
-
-fn one(n: Single) -> Single {
-    if n.problem == 0 {
-        if n.place == 0 {
-            return Single {
-                value: 0,
-                place: 0,
-                problem: SINGLE,
-            };
+    fn letter(&mut self, letter: u8) {
+        match letter {
+            b'0'..=b'9' => self.digit(letter - b'0'),
+            b'\t'..=b'\r' | b' ' => {
+                if self.place == Place::Within {
+                    self.place = Place::Behind;
+                }
+            }
+            _ => {
+                self.place = Place::Within;
+                self.spoil(Problem::Letter);
+            }
         }
     }
-    n
 }
 
-// The one number of a text.
-pub fn number(text: &[u8]) -> Single {
-    let mut n = Single {
+// The one number of a text. Of several problems the last is told.
+pub fn read_number(text: &[u8]) -> Result<u64, Problem> {
+    let mut number = Single {
         value: 0,
-        place: 0,
-        problem: 0,
+        place: Place::Before,
+        problem: None,
     };
-    let mut i: usize = 0;
-    while i < text.len() {
-        n = number_letter(n, text[i]);
-        i += 1;
+    for letter in text {
+        number.letter(*letter);
     }
-    one(n)
-}
-
-// Whether a letter stands in a comment, which goes from a # to the line's end.
-fn commented(before: bool, b: u8) -> bool {
-    match b {
-        b'#' => true,
-        b'\n' => false,
-        _ => before,
+    match number.problem {
+        Some(problem) => Err(problem),
+        None if number.place == Place::Before => Err(Problem::Single),
+        None => Ok(number.value),
     }
-}
-
-fn plain(comment: bool, b: u8) -> u8 {
-    if comment {
-        return b' ';
-    }
-    b
-}
-
-// Comments become spaces.
-pub fn uncomment(text: &mut [u8]) {
-    let mut comment = false;
-    let mut i: usize = 0;
-    while i < text.len() {
-        comment = commented(comment, text[i]);
-        text[i] = plain(comment, text[i]);
-        i += 1;
-    }
-}
-
-pub fn same(a: &[u8], b: &[u8]) -> bool {
-    if a.len() != b.len() {
-        return false;
-    }
-    let mut i: usize = 0;
-    while i < a.len() {
-        if a[i] != b[i] {
-            return false;
-        }
-        i += 1;
-    }
-    true
-}
-
-// Answers. Letters that do not fit are left out, so that no caller owes room.
-
-pub fn put_letter(out: &mut [u8], n: usize, b: u8) -> usize
-    requires { n ≤ length out.old }
-    ensures { result ≤ length out.old }
-{
-    if n < out.len() {
-        out[n] = b;
-        return n + 1;
-    }
-    n
-}
-
-pub fn put(out: &mut [u8], at: usize, text: &[u8]) -> usize
-    requires { at ≤ length out.old }
-    ensures { result ≤ length out.old }
-{
-    let mut n = at;
-    let mut i: usize = 0;
-    while i < text.len() {
-        n = put_letter(out, n, text[i]);
-        i += 1;
-    }
-    n
-}
-
-pub fn put_number(out: &mut [u8], at: usize, value: u64) -> usize
-    requires { at ≤ length out.old }
-    ensures { result ≤ length out.old }
-{
-    let mut digits = [0u8; 20];
-    let k = io::decimal(value, &mut digits);
-    put(out, at, &digits[..k])
-}
-
-// A space and a number.
-pub fn put_next(out: &mut [u8], at: usize, value: u64) -> usize
-    requires { at ≤ length out.old }
-    ensures { result ≤ length out.old }
-{
-    let n = put_letter(out, at, b' ');
-    put_number(out, n, value)
-}
-
-fn wide(x: u32) -> u64 {
-    x as u64
-}
-
-// A word, 0 to 4,294,967,295; or with its sign, -2,147,483,648 to 2,147,483,647.
-pub fn put_word(out: &mut [u8], at: usize, word: u32, signed: bool) -> usize
-    requires { at ≤ length out.old }
-    ensures { result ≤ length out.old }
-{
-    if signed {
-        if word::is_negative(word) {
-            let n = put_letter(out, at, b'-');
-            return put_number(out, n, word::magnitude(word) as u64);
-        }
-    }
-    put_number(out, at, word as u64)
-}
-
-pub fn put_words(out: &mut [u8], at: usize, words: &[u32]) -> usize
-    requires { at ≤ length out.old }
-    ensures { result ≤ length out.old }
-{
-    let mut n = at;
-    let mut i: usize = 0;
-    while i < words.len() {
-        n = put_next(out, n, wide(words[i]));
-        i += 1;
-    }
-    n
 }
 
 // Parts of a line, with a mark behind each but the last.
 
 // How often a mark stands in a line.
-pub fn marks(line: &[u8], mark: u8) -> usize
-    ensures { result ≤ length line.now }
-{
-    let mut n: usize = 0;
-    let mut i: usize = 0;
-    while i < line.len() {
-        if line[i] == mark {
-            n += 1;
-        }
-        i += 1;
-    }
-    n
+pub fn marks(line: &[u8], mark: u8) -> usize {
+    line.iter().filter(|letter| **letter == mark).count()
 }
 
-// Where a part that starts at `from` ends.
-pub fn end_of(line: &[u8], from: usize, mark: u8) -> usize
-    requires { from ≤ length line.now }
-    ensures { (from ≤ result) × (result ≤ length line.now) }
-{
-    let mut i = from;
-    while i < line.len() {
-        if line[i] == mark {
-            return i;
-        }
-        i += 1;
-    }
-    i
-}
-
-// Where the part behind the one that starts at `from` starts.
-fn behind(line: &[u8], from: usize, mark: u8) -> usize
-    requires { from ≤ length line.now }
-    ensures { result ≤ length line.now }
-{
-    let e = end_of(line, from, mark);
-    if e < line.len() {
-        return e + 1;
-    }
-    e
-}
-
-fn least(a: usize, b: usize) -> usize {
-    if a < b {
-        return a;
-    }
-    b
-}
-
-// Part k, counted from 0; past the last part, nothing. No line has more parts behind its first than letters.
+// Part k, counted from 0; past the last part, nothing.
 pub fn part_by(line: &[u8], k: usize, mark: u8) -> &[u8] {
-    let most = least(k, line.len());
-    let mut at: usize = 0;
-    let mut i: usize = 0;
-    while i < most {
-        at = behind(line, at, mark);
-        i += 1;
-    }
-    let e = end_of(line, at, mark);
-    &line[at..e]
+    line.split(|letter| *letter == mark).nth(k).unwrap_or(&[])
 }
 
 // Part k between semicolons.
 pub fn part(line: &[u8], k: usize) -> &[u8] {
     part_by(line, k, b';')
+}
+
+// A word as it is told, 0 to 4,294,967,295; or with its sign, -2,147,483,648 to 2,147,483,647.
+#[derive(Clone, Copy, Debug, PartialEq, Eq)]
+pub struct Word {
+    pub word: u32,
+    pub signed: bool,
+}
+
+impl fmt::Display for Word {
+    fn fmt<W: fmt::Write>(&self, f: &mut fmt::Formatter<W>) -> fmt::Result {
+        let word = self.word;
+        if self.signed && word::is_negative(word) {
+            let size = word::magnitude(word);
+            return write!(f, "-{size}");
+        }
+        write!(f, "{word}")
+    }
+}
+
+// Words as they are told in a line, each behind a space.
+#[derive(Clone, Copy, Debug)]
+pub struct Words<'a>(pub &'a [u32]);
+
+impl<'a> fmt::Display for Words<'a> {
+    fn fmt<W: fmt::Write>(&self, f: &mut fmt::Formatter<W>) -> fmt::Result {
+        for word in self.0 {
+            write!(f, " {word}")?;
+        }
+        Ok(())
+    }
+}
+
+// A page of lent memory, which is written from its start on. Letters that do not fit are left out.
+#[derive(Drop)]
+pub struct Page<'a>(Cursor<&'a mut [u8]>);
+
+impl<'a> Page<'a> {
+    pub fn new(memory: &'a mut [u8]) -> Self {
+        Page(Cursor::new(memory))
+    }
+
+    // What is written.
+    pub fn as_slice(&self) -> &[u8] {
+        let memory = self.0.get_ref();
+        memory.get(..self.0.position() as usize).unwrap_or(memory)
+    }
+
+    pub fn clear(&mut self) {
+        self.0.set_position(0);
+    }
+}
+
+impl<'a> Write for Page<'a> {
+    fn write(&mut self, text: &[u8]) -> io::Result<usize> {
+        self.0.write(text)
+    }
+
+    fn flush(&mut self) -> io::Result<()> {
+        Ok(())
+    }
 }

@@ -3,660 +3,350 @@
 // White space stands between words, and # starts a comment that ends with its line. Word a of a CONST may have a sign.
 #![tactic(auto)]
 
-ghost use Rattle.std.specs.Prelude.{◌≤◌, ◌<◌, length};
+use arrayvec::ArrayVec;
+use std::fmt;
 
-// What can be wrong; 0 is nothing.
+// What can be wrong.
+#[derive(Clone, Copy, Debug, PartialEq, Eq)]
+pub enum Problem {
+    // A letter that is no digit, no white space and in no comment.
+    Letter,
+    // A word over the largest.
+    Large,
+    // More words than there is room for.
+    Many,
+    // A sign before a word that has none.
+    Sign,
+    // A word below the least.
+    Low,
+}
 
-// A letter that is no digit, no white space and in no comment.
-pub const LETTER: u32 = 1;
-
-// A word over the largest.
-pub const LARGE: u32 = 2;
-
-// More words than there is room for.
-pub const MANY: u32 = 3;
-
-// A sign before a word that has none.
-pub const SIGN: u32 = 4;
-
-// A word below the least.
-pub const LOW: u32 = 5;
+// What is wrong first: the offset of its letter or of its word's first digit or sign, and how many words stand before it.
+#[derive(Clone, Copy, Debug, PartialEq, Eq)]
+pub struct Misread {
+    pub problem: Problem,
+    pub at: usize,
+    pub before: usize,
+}
 
 // The kind whose word a may have a sign.
 const CONST: u32 = 1;
 
-// The words that were read, and what was wrong first, with the offset of its letter or of its word's first digit or sign.
+// The word that is being read: where it starts, and whether it has a sign.
 #[derive(Clone, Copy)]
-pub struct Typed {
-    pub count: usize,
-    pub problem: u32,
-    pub at: usize,
-}
-
-// Where the reading stands: the words kept, the word that is being read, whether it has a sign and where it starts, and whether a comment is read.
-#[derive(Clone, Copy)]
-struct Scan {
-    count: usize,
+struct Number {
     value: u64,
-    open: bool,
     below: bool,
     start: usize,
+}
+
+impl Number {
+    fn word(self) -> Result<u32, Problem> {
+        if self.below {
+            return self.word_below();
+        }
+        u32::try_from(self.value).map_err(|_| Problem::Large)
+    }
+
+    fn word_below(self) -> Result<u32, Problem> {
+        if text::MOST_BELOW < self.value {
+            return Err(Problem::Low);
+        }
+        Ok(word::negate(self.value as u32))
+    }
+}
+
+// Where the reading stands.
+#[derive(Drop)]
+struct Scan {
+    number: Option<Number>,
     comment: bool,
-    problem: u32,
 }
 
-// One more digit. What is past the largest word stays just past it.
-fn longer(value: u64, digit: u8) -> u64 {
-    if value < 429496730 {
-        return value * 10 + digit as u64;
+impl Misread {
+    fn new<const N: usize>(problem: Problem, at: usize, words: &ArrayVec<u32, N>) -> Self {
+        Misread {
+            problem,
+            at,
+            before: words.len(),
+        }
     }
-    text::MOST_WORD + 1
 }
 
-// Where the word starts that the digit at i belongs to.
-fn start_of(s: Scan, i: usize) -> usize {
-    if s.open {
-        return s.start;
+// Whether the next word is word a of a CONST.
+fn of_const(words: &[u32]) -> bool {
+    words.len() % 6 == 1 && words.last() == Some(&CONST)
+}
+
+impl Scan {
+    // A word's end: the word is kept.
+    fn keep<const N: usize>(&mut self, words: &mut ArrayVec<u32, N>) -> Result<(), Misread> {
+        if let Some(number) = self.number {
+            self.number = None;
+            return match number.word() {
+                Ok(word) => match words.try_push(word) {
+                    Ok(()) => Ok(()),
+                    Err(_) => Err(Misread::new(Problem::Many, number.start, words)),
+                },
+                Err(problem) => Err(Misread::new(problem, number.start, words)),
+            };
+        }
+        Ok(())
     }
-    i
-}
 
-fn lengthened(s: Scan, digit: u8, i: usize) -> Scan
-    ensures { result.count ≤ s.count }
-{
-    let mut t = s;
-    t.start = start_of(s, i);
-    t.open = true;
-    t.value = longer(s.value, digit);
-    t
-}
-
-// A problem that stands at offset `at`.
-fn spoiled(s: Scan, problem: u32, at: usize) -> Scan
-    ensures { result.count ≤ s.count }
-{
-    let mut t = s;
-    t.problem = problem;
-    t.start = at;
-    t
-}
-
-// One word more.
-fn kept(out: &mut [u32], s: Scan, word: u32) -> Scan
-    requires { s.count ≤ length out.old }
-    ensures { result.count ≤ length out.old }
-{
-    let n = s.count;
-    if n < out.len() {
-        out[n] = word;
-        return Scan {
-            count: n + 1,
+    fn digit(&mut self, digit: u8, i: usize) {
+        let number = self.number.unwrap_or(Number {
             value: 0,
-            open: false,
             below: false,
-            start: s.start,
-            comment: s.comment,
-            problem: 0,
-        };
+            start: i,
+        });
+        self.number = Some(Number {
+            value: text::longer(number.value, digit),
+            below: number.below,
+            start: number.start,
+        });
     }
-    spoiled(s, MANY, s.start)
-}
 
-// A word's end: the word is kept.
-fn keep(out: &mut [u32], s: Scan) -> Scan
-    requires { s.count ≤ length out.old }
-    ensures { result.count ≤ length out.old }
-{
-    if s.open {} else {
-        return s;
-    }
-    let value = s.value;
-    if s.below {
-        if text::MOST_BELOW < value {
-            return spoiled(s, LOW, s.start);
+    // A sign at offset i. One that starts no number of a table is a letter as any other.
+    fn sign<const N: usize>(
+        &mut self,
+        words: &ArrayVec<u32, N>,
+        i: usize,
+        starts_number: bool,
+    ) -> Result<(), Misread> {
+        if self.number.is_some() || !starts_number {
+            return Err(Misread::new(Problem::Letter, i, words));
         }
-        return kept(out, s, word::negate(value as u32));
+        if !of_const(words.as_slice()) {
+            return Err(Misread::new(Problem::Sign, i, words));
+        }
+        self.number = Some(Number {
+            value: 0,
+            below: true,
+            start: i,
+        });
+        Ok(())
     }
-    if text::MOST_WORD < value {
-        return spoiled(s, LARGE, s.start);
-    }
-    kept(out, s, value as u32)
-}
 
-// Whether the word behind `count` words is word a of a CONST.
-fn of_const(words: &[u32], count: usize) -> bool
-    requires { count ≤ length words.now }
-{
-    if count % 6 == 1 {
-        return words[count - 1] == CONST;
-    }
-    false
-}
-
-// Whether a sign starts a number of a table: not within a word, and before a digit.
-fn starts_number(open: bool, next: u8, rows: bool) -> bool {
-    if open {
-        return false;
-    }
-    if rows {
-        return text::is_digit(next);
-    }
-    false
-}
-
-// A sign at offset i, with the letter `next` behind it. One that starts no number is a letter as any other.
-fn sign(out: &[u32], s: Scan, i: usize, next: u8, rows: bool) -> Scan
-    requires { s.count ≤ length out.now }
-    ensures { result.count ≤ s.count }
-{
-    if starts_number(s.open, next, rows) {} else {
-        return spoiled(s, LETTER, i);
-    }
-    if of_const(out, s.count) {} else {
-        return spoiled(s, SIGN, i);
-    }
-    let mut t = s;
-    t.start = i;
-    t.open = true;
-    t.below = true;
-    t
-}
-
-fn commented(s: Scan, comment: bool) -> Scan
-    ensures { result.count ≤ s.count }
-{
-    let mut t = s;
-    t.comment = comment;
-    t
-}
-
-// A comment ends with its line.
-fn passed(s: Scan, b: u8) -> Scan
-    ensures { result.count ≤ s.count }
-{
-    if b == b'\n' {
-        return commented(s, false);
-    }
-    s
-}
-
-fn letter(out: &mut [u32], s: Scan, b: u8, i: usize, next: u8, rows: bool) -> Scan
-    requires { s.count ≤ length out.old }
-    ensures { result.count ≤ length out.old }
-{
-    if s.comment {
-        return passed(s, b);
-    }
-    match b {
-        48..=57 => lengthened(s, b - 48, i),
-        9..=13 => keep(out, s),
-        32 => keep(out, s),
-        b'#' => commented(keep(out, s), true),
-        b'-' => sign(out, s, i, next, rows),
-        _ => spoiled(s, LETTER, i),
+    // The letter at offset i; `signed` says that a sign there starts a number of a table.
+    fn letter<const N: usize>(
+        &mut self,
+        words: &mut ArrayVec<u32, N>,
+        letter: u8,
+        i: usize,
+        signed: bool,
+    ) -> Result<(), Misread> {
+        if self.comment {
+            self.comment = letter != b'\n';
+            return Ok(());
+        }
+        match letter {
+            b'0'..=b'9' => self.digit(letter - b'0', i),
+            b'\t'..=b'\r' | b' ' => self.keep(words)?,
+            b'#' => {
+                self.keep(words)?;
+                self.comment = true;
+            }
+            b'-' => self.sign(words, i, signed)?,
+            _ => return Err(Misread::new(Problem::Letter, i, words)),
+        }
+        Ok(())
     }
 }
 
-fn read_of(s: Scan) -> Typed
-    ensures { result.count ≤ s.count }
-{
-    Typed {
-        count: s.count,
-        problem: s.problem,
-        at: s.start,
+// Whether the letter behind offset i is a digit.
+fn before_digit(text: &[u8], i: usize) -> bool {
+    match text.get(i.saturating_add(1)) {
+        Some(letter) => letter.is_ascii_digit(),
+        None => false,
     }
 }
 
-// The words of a text, up to the first thing that is wrong. `rows` says that it is a table's.
-pub fn read(text: &[u8], words: &mut [u32], rows: bool) -> Typed
-    ensures { result.count ≤ length words.old }
-{
-    let mut s = Scan {
-        count: 0,
-        value: 0,
-        open: false,
-        below: false,
-        start: 0,
+// Puts the words of a text, up to the first thing that is wrong, behind those that are there. `rows` says that it is a table's.
+pub fn read<const N: usize>(
+    text: &[u8],
+    words: &mut ArrayVec<u32, N>,
+    rows: bool,
+) -> Result<(), Misread> {
+    let mut scan = Scan {
+        number: None,
         comment: false,
-        problem: 0,
     };
-    let mut i: usize = 0;
-    while i < text.len() {
-        s = letter(words, s, text[i], i, byte_at(text, i + 1), rows);
-        if s.problem != 0 {
-            return read_of(s);
-        }
-        i += 1;
+    for (i, letter) in text.iter().enumerate() {
+        scan.letter(words, *letter, i, rows && before_digit(text, i))?;
     }
-    read_of(keep(words, s))
+    scan.keep(words)
 }
 
-// Places. Counters stop past the letters that any file has, so that no sum owes a bound.
-
-fn more(n: u64) -> u64 {
-    if n < 1000000000000 {
-        return n + 1;
-    }
-    n
-}
+// Places.
 
 // A byte that starts a letter of UTF-8.
 fn starts(b: u8) -> bool {
-    match b {
-        128..=191 => false,
-        _ => true,
-    }
+    !matches!(b, 128..=191)
 }
 
 // Line and column of a letter.
-#[derive(Clone, Copy)]
+#[derive(Clone, Copy, Debug, PartialEq, Eq)]
 pub struct Place {
     pub line: u64,
     pub column: u64,
 }
 
-// The place behind a byte.
-fn behind(p: Place, b: u8) -> Place {
-    if b == b'\n' {
-        return Place {
-            line: more(p.line),
-            column: 1,
-        };
+impl fmt::Display for Place {
+    fn fmt<W: fmt::Write>(&self, f: &mut fmt::Formatter<W>) -> fmt::Result {
+        let line = self.line;
+        let column = self.column;
+        write!(f, "line {line}, column {column}")
     }
-    if starts(b) {
-        return Place {
-            line: p.line,
-            column: more(p.column),
-        };
-    }
-    p
-}
-
-fn least(a: usize, b: usize) -> usize
-    ensures { result ≤ b }
-{
-    if a < b {
-        return a;
-    }
-    b
 }
 
 // Where the letter at an offset stands.
 pub fn place_of(text: &[u8], at: usize) -> Place {
-    let most = least(at, text.len());
-    let mut p = Place { line: 1, column: 1 };
-    let mut i: usize = 0;
-    while i < most {
-        p = behind(p, text[i]);
-        i += 1;
-    }
-    p
-}
-
-// Letters of UTF-8.
-
-fn byte_at(text: &[u8], i: usize) -> u8 {
-    if i < text.len() {
-        return text[i];
-    }
-    0
-}
-
-// What stands from an offset on.
-fn from(text: &[u8], at: usize) -> &[u8] {
-    let a = least(at, text.len());
-    &text[a..]
-}
-
-fn continues(text: &[u8], i: usize) -> bool {
-    !starts(byte_at(text, i))
-}
-
-// The least and the largest second byte behind a first one: no letter is written longer than it has to be, none is a surrogate or past U+10FFFF.
-fn least_second(first: u8) -> u8 {
-    match first {
-        224 => 160,
-        240 => 144,
-        _ => 128,
-    }
-}
-
-fn most_second(first: u8) -> u8 {
-    match first {
-        237 => 159,
-        244 => 143,
-        _ => 191,
-    }
-}
-
-fn second_fits(text: &[u8]) -> bool {
-    let first = byte_at(text, 0);
-    let second = byte_at(text, 1);
-    if second < least_second(first) {
-        return false;
-    }
-    second <= most_second(first)
-}
-
-// The bytes that a letter has by its first one; 0 where no letter starts so.
-fn size_by(first: u8) -> usize {
-    match first {
-        0..=127 => 1,
-        194..=223 => 2,
-        224..=239 => 3,
-        240..=244 => 4,
-        _ => 0,
-    }
-}
-
-fn third_and_fourth(text: &[u8], size: usize) -> bool {
-    if 2 < size {
-        if continues(text, 2) {} else {
-            return false;
+    let mut place = Place { line: 1, column: 1 };
+    for letter in text.iter().take(at) {
+        if *letter == b'\n' {
+            place.line = place.line.saturating_add(1);
+            place.column = 1;
+        } else if starts(*letter) {
+            place.column = place.column.saturating_add(1);
         }
     }
-    if 3 < size {
-        return continues(text, 3);
-    }
-    true
+    place
 }
 
-// The bytes of the letter that a text starts with, or 0 where it is broken.
-fn size_of(text: &[u8]) -> usize {
-    let size = size_by(byte_at(text, 0));
-    if size < 2 {
-        return size;
-    }
-    if second_fits(text) {
-        if third_and_fourth(text, size) {
-            return size;
+// The letter that a text starts with: itself, and where it has more than one byte its number too, since some letters look like a space or like nothing.
+#[derive(Clone, Copy, Debug)]
+pub struct First<'a>(pub &'a [u8]);
+
+// The letter of more than one byte that a text starts with.
+fn wide_letter(text: &[u8]) -> Option<char> {
+    for size in 2..5 {
+        if let Some(front) = text.get(..size) {
+            if let Ok(letter) = str::from_utf8(front) {
+                return letter.chars().next();
+            }
         }
     }
-    0
+    None
 }
 
-// The lower bits of byte i.
-fn bits(text: &[u8], i: usize) -> u64
-    ensures { result < 64 }
-{
-    (byte_at(text, i) % 64) as u64
-}
-
-// The number of a letter of 2 to 4 bytes.
-fn code_of(text: &[u8], size: usize) -> u64 {
-    let low = bits(text, 0) * 64 + bits(text, 1);
-    if size == 2 {
-        return low % 2048;
+impl<'a> fmt::Display for First<'a> {
+    fn fmt<W: fmt::Write>(&self, f: &mut fmt::Formatter<W>) -> fmt::Result {
+        let byte = self.0.first().copied().unwrap_or(0);
+        match byte {
+            b' '..=b'~' => {
+                let letter = byte as char;
+                return write!(f, "'{letter}'");
+            }
+            0..=127 => return write!(f, "byte {byte}"),
+            _ => {}
+        }
+        match wide_letter(self.0) {
+            Some('\u{feff}') => f.write_str("a byte-order mark"),
+            Some(letter) => {
+                let code = letter as u32;
+                write!(f, "'{letter}' (U+{code:04x})")
+            }
+            None => write!(f, "byte {byte}"),
+        }
     }
-    if size == 3 {
-        return (low % 1024) * 64 + bits(text, 2);
-    }
-    ((low % 512) * 64 + bits(text, 2)) * 64 + bits(text, 3)
-}
-
-// Whether a byte alone can be shown.
-fn shows(b: u8) -> bool {
-    match b {
-        32..=126 => true,
-        _ => false,
-    }
-}
-
-fn put_byte(out: &mut [u8], at: usize, b: u8) -> usize
-    requires { at ≤ length out.old }
-    ensures { result ≤ length out.old }
-{
-    if shows(b) {
-        let n = text::put_letter(out, at, b'\'');
-        let m = text::put_letter(out, n, b);
-        return text::put_letter(out, m, b'\'');
-    }
-    let n = text::put(out, at, b"byte");
-    text::put_next(out, n, b as u64)
-}
-
-fn put_code(out: &mut [u8], at: usize, code: u64) -> usize
-    requires { at ≤ length out.old }
-    ensures { result ≤ length out.old }
-{
-    let mut digits = [0u8; 16];
-    let k = io::hex(code, 4, &mut digits);
-    text::put(out, at, &digits[..k])
-}
-
-// A letter of more than one byte: itself, and its number, since some letters look like a space or like nothing.
-fn put_wide(out: &mut [u8], at: usize, letter: &[u8], code: u64) -> usize
-    requires { at ≤ length out.old }
-    ensures { result ≤ length out.old }
-{
-    let a = text::put_letter(out, at, b'\'');
-    let b = text::put(out, a, letter);
-    let c = text::put(out, b, b"' (U+");
-    let d = put_code(out, c, code);
-    text::put_letter(out, d, b')')
-}
-
-// The letter that a text starts with.
-pub fn put_first(out: &mut [u8], at: usize, text: &[u8]) -> usize
-    requires { at ≤ length out.old }
-    ensures { result ≤ length out.old }
-{
-    let size = size_of(text);
-    if size < 2 {
-        return put_byte(out, at, byte_at(text, 0));
-    }
-    let code = code_of(text, size);
-    if code == 65279 {
-        return text::put(out, at, b"a byte-order mark");
-    }
-    let n = least(size, text.len());
-    put_wide(out, at, &text[..n], code)
 }
 
 // Problems, told.
 
-// The word that is the next behind `count` words: its row, and its name there.
-fn put_word(out: &mut [u8], at: usize, count: usize) -> usize
-    requires { at ≤ length out.old }
-    ensures { result ≤ length out.old }
-{
-    let a = text::put(out, at, b" (row");
-    let b = text::put_next(out, a, (count / 6) as u64);
-    let c = text::put(out, b, b", ");
-    let d = text::put(
-        out,
-        c,
-        text::part(b"kind;word a;word b;word c;word d;word e", count % 6),
-    );
-    text::put_letter(out, d, b')')
+// The word that is the next behind so many: its row, and its name there.
+#[derive(Clone, Copy, Debug)]
+struct Next(usize);
+
+impl fmt::Display for Next {
+    fn fmt<W: fmt::Write>(&self, f: &mut fmt::Formatter<W>) -> fmt::Result {
+        let row = self.0 / 6;
+        let word = match self.0 % 6 {
+            0 => "kind",
+            1 => "word a",
+            2 => "word b",
+            3 => "word c",
+            4 => "word d",
+            _ => "word e",
+        };
+        write!(f, " (row {row}, {word})")
+    }
 }
 
-pub fn put_place(out: &mut [u8], at: usize, p: Place) -> usize
-    requires { at ≤ length out.old }
-    ensures { result ≤ length out.old }
-{
-    let a = text::put(out, at, b"line");
-    let b = text::put_next(out, a, p.line);
-    let c = text::put(out, b, b", column");
-    text::put_next(out, c, p.column)
+// A text's first problem: where it stands, and what it is. In a table's text the row and the word are told too.
+#[derive(Clone, Copy, Debug)]
+pub struct Found<'a> {
+    pub text: &'a [u8],
+    pub misread: Misread,
+    pub rows: bool,
 }
 
-fn put_what(out: &mut [u8], at: usize, problem: u32, rest: &[u8]) -> usize
-    requires { at ≤ length out.old }
-    ensures { result ≤ length out.old }
-{
-    if problem == LETTER {
-        let n = put_first(out, at, rest);
-        return text::put(out, n, b" is no digit");
+impl<'a> fmt::Display for Found<'a> {
+    fn fmt<W: fmt::Write>(&self, f: &mut fmt::Formatter<W>) -> fmt::Result {
+        let place = place_of(self.text, self.misread.at);
+        write!(f, "{place}")?;
+        if self.rows {
+            let next = Next(self.misread.before);
+            write!(f, "{next}")?;
+        }
+        match self.misread.problem {
+            Problem::Letter => {
+                let rest = self.text.get(self.misread.at..).unwrap_or(&[]);
+                let first = First(rest);
+                write!(f, ": {first} is no digit")
+            }
+            Problem::Large => f.write_str(": a word over 4,294,967,295"),
+            Problem::Low => f.write_str(": a word below -2,147,483,648"),
+            Problem::Sign => {
+                f.write_str(": '-' is no digit here: only word a of a CONST may be below 0")
+            }
+            Problem::Many => { f.write_str(": more words than the 65,536 that there is room for") }
+        }
     }
-    if problem == LARGE {
-        return text::put(out, at, b"a word over 4,294,967,295");
-    }
-    if problem == LOW {
-        return text::put(out, at, b"a word below -2,147,483,648");
-    }
-    if problem == SIGN {
-        return text::put(
-            out,
-            at,
-            b"'-' is no digit here: only word a of a CONST may be below 0",
-        );
-    }
-    text::put(
-        out,
-        at,
-        b"more words than the 65,536 that there is room for",
-    )
-}
-
-// Where the text's first problem stands, and what it is. In a table's text the row and the word are told too.
-pub fn put_problem(out: &mut [u8], at: usize, text: &[u8], typed: Typed, rows: bool) -> usize
-    requires { at ≤ length out.old }
-    ensures { result ≤ length out.old }
-{
-    let a = put_place(out, at, place_of(text, typed.at));
-    let b = put_word_if(out, a, typed.count, rows);
-    let c = text::put(out, b, b": ");
-    put_what(out, c, typed.problem, from(text, typed.at))
-}
-
-fn put_word_if(out: &mut [u8], at: usize, count: usize, rows: bool) -> usize
-    requires { at ≤ length out.old }
-    ensures { result ≤ length out.old }
-{
-    if rows {
-        return put_word(out, at, count);
-    }
-    at
 }
 
 // Lines. A text is laid out a row a line where at least half of the lines that hold words hold six; the odd line is then the first that holds words, and not six.
 
-// Line 0 says that there is none.
-#[derive(Clone, Copy)]
+#[derive(Clone, Copy, Debug, PartialEq, Eq)]
 pub struct Odd {
     pub line: u64,
-    pub words: u64,
-}
-
-// The line that is being read and its words so far, the lines before it that hold words, those of them that hold six, and the first that holds others.
-#[derive(Clone, Copy)]
-struct Lines {
-    line: u64,
-    words: u64,
-    open: bool,
-    comment: bool,
-    held: u64,
-    six: u64,
-    odd: u64,
-    odd_words: u64,
-}
-
-// A line's end: a line of six words, or of others, is counted.
-fn closed(s: Lines) -> Lines {
-    let mut t = s;
-    t.line = more(s.line);
-    t.words = 0;
-    t.open = false;
-    t.comment = false;
-    if s.words == 0 {
-        return t;
-    }
-    t.held = more(s.held);
-    if s.words == 6 {
-        t.six = more(s.six);
-        return t;
-    }
-    if s.odd == 0 {
-        t.odd = s.line;
-        t.odd_words = s.words;
-    }
-    t
-}
-
-// A letter of a word: where it is the first, one word more.
-fn inside(s: Lines) -> Lines {
-    if s.open {
-        return s;
-    }
-    let mut t = s;
-    t.open = true;
-    t.words = more(s.words);
-    t
-}
-
-fn outside(s: Lines, comment: bool) -> Lines {
-    let mut t = s;
-    t.open = false;
-    t.comment = comment;
-    t
-}
-
-fn line_letter(s: Lines, b: u8) -> Lines {
-    if b == b'\n' {
-        return closed(s);
-    }
-    if s.comment {
-        return s;
-    }
-    match b {
-        9..=13 => outside(s, false),
-        32 => outside(s, false),
-        b'#' => outside(s, true),
-        _ => inside(s),
-    }
-}
-
-fn odd_of(s: Lines) -> Odd {
-    if s.six <= 1000000000000 {
-        if s.held <= 2 * s.six {
-            return Odd {
-                line: s.odd,
-                words: s.odd_words,
-            };
-        }
-    }
-    Odd { line: 0, words: 0 }
-}
-
-pub fn odd_line(text: &[u8]) -> Odd {
-    let mut s = Lines {
-        line: 1,
-        words: 0,
-        open: false,
-        comment: false,
-        held: 0,
-        six: 0,
-        odd: 0,
-        odd_words: 0,
-    };
-    let mut i: usize = 0;
-    while i < text.len() {
-        s = line_letter(s, text[i]);
-        i += 1;
-    }
-    odd_of(closed(s))
-}
-
-fn put_words(out: &mut [u8], at: usize, words: u64) -> usize
-    requires { at ≤ length out.old }
-    ensures { result ≤ length out.old }
-{
-    let n = text::put_next(out, at, words);
-    if words == 1 {
-        return text::put(out, n, b" word");
-    }
-    text::put(out, n, b" words")
+    pub words: usize,
 }
 
 // What is odd about a line, as `line 3 has 5 words, a row has six`.
-pub fn put_odd(out: &mut [u8], at: usize, odd: Odd) -> usize
-    requires { at ≤ length out.old }
-    ensures { result ≤ length out.old }
-{
-    let a = text::put(out, at, b"line");
-    let b = text::put_next(out, a, odd.line);
-    let c = text::put(out, b, b" has");
-    let d = put_words(out, c, odd.words);
-    text::put(out, d, b", a row has six")
+impl fmt::Display for Odd {
+    fn fmt<W: fmt::Write>(&self, f: &mut fmt::Formatter<W>) -> fmt::Result {
+        let line = self.line;
+        let words = self.words;
+        let noun = if words == 1 { "word" } else { "words" };
+        write!(f, "line {line} has {words} {noun}, a row has six")
+    }
+}
+
+// The words of a line before its comment.
+fn words_of(line: &[u8]) -> usize {
+    let before = text::part_by(line, 0, b'#');
+    before
+        .split(|letter| matches!(letter, b'\t'..=b'\r' | b' '))
+        .filter(|word| !word.is_empty())
+        .count()
+}
+
+pub fn odd_line(text: &[u8]) -> Option<Odd> {
+    let mut rows: u64 = 0;
+    let mut others: u64 = 0;
+    let mut line: u64 = 0;
+    let mut odd = None;
+    for letters in text.split(|letter| *letter == b'\n') {
+        line = line.saturating_add(1);
+        match words_of(letters) {
+            0 => {}
+            6 => rows = rows.saturating_add(1),
+            words => {
+                others = others.saturating_add(1);
+                odd = odd.or(Some(Odd { line, words }));
+            }
+        }
+    }
+    if others <= rows { odd } else { None }
 }

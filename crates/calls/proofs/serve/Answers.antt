@@ -4,8 +4,8 @@ use mathlib.Core.Path.{sym}
 use lib.ListN.{length-replicate}
 use Rattle.calls.proofs.serve.Goals as goal
 
-pub slice_bounds-converse-end-2 : goal.slice_bounds-converse-end-2
-slice_bounds-converse-end-2 g c = sym (length-replicate {A = ℕ} 1048576 0)
+pub slice_bounds-new-end : goal.slice_bounds-new-end
+slice_bounds-new-end g c = sym (length-replicate {A = ℕ} 1048576 0)
 
-pub slice_bounds-converse-end-3 : goal.slice_bounds-converse-end-3
-slice_bounds-converse-end-3 g c = sym (length-replicate {A = ℕ} 1048576 0)
+pub slice_bounds-new-end-2 : goal.slice_bounds-new-end-2
+slice_bounds-new-end-2 g c = sym (length-replicate {A = ℕ} 1048576 0)

@@ -10,16 +10,10 @@ pub bounds-graph-0 : goal.bounds-graph-0
 bounds-graph-0 g c = let a = (accepted _ c.requires.0.graph).shape in omega arith
 
 pub loop-i-init : goal.loop-i-init
-loop-i-init g c = (omega arith, c.wide-count.ensures.0, refl, omega arith, rw (sub-zero, c.wide-count.ensures.0))
+loop-i-init g c = (omega arith, refl, refl, omega arith, rw sub-zero refl)
 
 pub turn_of-left-requires : goal.turn_of-left-requires
 turn_of-left-requires g c = (record { graph = c.requires.0.graph; size = c.loop-i.invariant.2 ∙ c.requires.0.size }, omega arith, omega arith)
-
-pub overflow_add-i : goal.overflow_add-i
-overflow_add-i g c = omega arith
-
-pub loop-i-smaller : goal.loop-i-smaller
-loop-i-smaller g c = omega arith
 
 pub loop-i-preserved : goal.loop-i-preserved
 loop-i-preserved g c = (omega arith, c.loop-i.invariant.1, c.turn_of-left.auto.state ∙ c.loop-i.invariant.2, omega arith, rw c.turn_of-left.ensures.turn.0 (sym (sweep_go _ _ _ _ c.loop-i-test.true) ∙ c.loop-i.invariant.4))

@@ -8,7 +8,4 @@ use Prim.Native.Nat.{◌-◌, ◌≤◌}
 use Rattle.traced.proofs.sweep_told.Given as goal
 
 abbrev pub invariant-loop-i : goal.invariant-loop-i
-invariant-loop-i g l = (l.i ≤ l.count) × (l.count ≡ node_count l.graph) × (length l.state ≡ length l.initial.state) × (l.left ≤ l.given) × (sweep_from (net_of l.graph) (l.count - l.i) l.i (at l.state l.left) ≡ sweep (net_of l.graph) (node_count l.graph) (at l.initial.state l.given))
-
-abbrev pub decreases-loop-i : goal.decreases-loop-i
-decreases-loop-i g l = l.count - l.i
+invariant-loop-i g l = (l.i ≤ l.nodes) × (l.nodes ≡ node_count l.graph) × (length l.state ≡ length l.initial.state) × (l.left ≤ l.given) × (sweep_from (net_of l.graph) (l.nodes - l.i) l.i (at l.state l.left) ≡ sweep (net_of l.graph) (node_count l.graph) (at l.initial.state l.given))
