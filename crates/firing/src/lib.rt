@@ -106,7 +106,8 @@ fn keep(state: &mut [u32], wires: usize, i: usize, left: step::Record)
     state[at + 3] = left.r2;
 }
 
-// A node's row: its kind, code and sort, and the wire on each place, where its kind has the place.
+// A node's row: its kind, code and sort, and the wire on each place, where its kind has the place. Its kind stays a number, since any may stand
+// there.
 #[derive(Clone, Copy)]
 pub struct Row {
     pub kind: u32,

@@ -27,6 +27,7 @@ const MOST_STARTS: u32 = 512;
 
 const MOST_RESULTS: u32 = 512;
 
+// A word as a length or a place: `usize` has no `From<u32>`.
 pub fn wide(x: u32) -> usize
     ensures { (result ≡ x) × (result < 4294967296) }
 {
@@ -158,7 +159,7 @@ pub fn result_at(graph: &[u32], k: usize) -> u32
     graph[4 + 2 * starts + k]
 }
 
-// 12: starts, rows, and the number of wires.
+// 12: starts, rows, and the number of wires. A start's kind stays a number, since any may stand there.
 fn start_right(kind: u32, word: u32, inputs: u32) -> bool
     ensures { result ≡ pick (eqb kind 0) (eqb word inputs) (eqb kind 1) }
 {
@@ -195,6 +196,7 @@ fn starts_right(graph: &[u32]) -> bool
     true
 }
 
+// The word of an input that is not there is looked at too, so it comes beside its flag.
 fn spare(present: bool, wire: u32) -> bool
     ensures { result ≡ pick present true (eqb wire absent) }
 {

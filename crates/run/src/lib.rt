@@ -75,7 +75,7 @@ pub fn sweep_once(graph: &[u32], state: &mut [u32], allowance: u64) -> u64
     left
 }
 
-// Sweeps until one fires nothing.
+// Sweeps until one fires nothing: that ends the loop, and no count.
 fn sweep_all(graph: &[u32], state: &mut [u32], allowance: u64) -> u64
     requires { Runs graph.now (length state.old) }
     ensures finished { (at state.new result ≡ finish (net_of graph.now) (node_count graph.now) (at state.old allowance)) × (result ≤ allowance) }

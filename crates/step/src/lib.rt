@@ -83,7 +83,7 @@ impl fmt::Display for UnknownKind {
 
 impl Error for UnknownKind {}
 
-// A node's phase and three registers.
+// A node's phase and three registers. A phase stays a number, since any may stand in a lent state.
 #[derive(Clone, Copy, Debug, PartialEq, Eq)]
 pub struct Record {
     pub phase: u32,
