@@ -2,6 +2,8 @@
 // Nodes and wires have their rows and roles beside them, by the names of `roles`.
 #![tactic(auto)]
 
+ghost use Rattle.std.specs.Prelude.{◌≤◌};
+
 use drawn::{Node, View, word_at};
 use std::io;
 use std::io::Write;
@@ -10,7 +12,9 @@ use told::Condition;
 // Tokens.
 
 // How many tokens stand on wires.
-pub fn tokens(view: View<'_>) -> usize {
+pub fn tokens(view: View<'_>) -> usize
+    ensures { result ≤ 8192 }
+{
     (0..view.graph.wires())
         .filter(|wire| view.state.token(*wire).is_some())
         .count()

@@ -2,6 +2,8 @@
 // What is told is written to an `io::Write`, mostly to a page of fixed memory.
 #![tactic(auto)]
 
+ghost use Rattle.std.specs.Prelude.{◌≤◌, length};
+
 use arrayvec::ArrayVec;
 use std::io::{Cursor, Write};
 use std::{fmt, io};
@@ -165,7 +167,9 @@ pub fn read_number(text: &[u8]) -> Result<u64, Problem> {
 // Parts of a line, with a mark behind each but the last.
 
 // How often a mark stands in a line.
-pub fn marks(line: &[u8], mark: u8) -> usize {
+pub fn marks(line: &[u8], mark: u8) -> usize
+    ensures { result ≤ length line.now }
+{
     line.iter().filter(|letter| **letter == mark).count()
 }
 
