@@ -49,24 +49,35 @@ fn rehearse_text<R: Channels>(console: &Console<'_, R>, text: &[u8], k: usize, s
     let mut state = words_of(text, k + 2);
     let nodes = words_of(text, k + 3);
     let wires = words_of(text, k + 4);
-    for (trace, allowance) in [(false, 1000), (true, 1000), (false, 30)] {
-        let how = How {
-            console,
-            names: Names {
-                nodes: nodes.as_slice(),
-                wires: wires.as_slice(),
-            },
-            trace,
-            signed,
-        };
-        rehearse(
-            &how,
-            graph.as_slice(),
-            inputs.as_slice(),
-            state.as_mut_slice(),
-            allowance,
-        );
-    }
+    let names = Names {
+        nodes: nodes.as_slice(),
+        wires: wires.as_slice(),
+    };
+    let graph = graph.as_slice();
+    let inputs = inputs.as_slice();
+    let state = state.as_mut_slice();
+    rehearse_as(console, names, false, signed, graph, inputs, state, 1000);
+    rehearse_as(console, names, true, signed, graph, inputs, state, 1000);
+    rehearse_as(console, names, false, signed, graph, inputs, state, 30);
+}
+
+fn rehearse_as<R: Channels>(
+    console: &Console<'_, R>,
+    names: Names<'_>,
+    trace: bool,
+    signed: bool,
+    graph: &[u32],
+    inputs: &[u32],
+    state: &mut [u32],
+    allowance: u64,
+) {
+    let how = How {
+        console,
+        names,
+        trace,
+        signed,
+    };
+    rehearse(&how, graph, inputs, state, allowance);
 }
 
 fn main(rt: HostRuntime) {

@@ -68,21 +68,42 @@ fn tell_case<R: Channels>(rt: &R, text: &[u8], k: usize)
     let graph = words_of::<256>(text, k + 2);
     let state = words_of::<256>(text, k + 3);
     let results = words_of::<8>(text, k + 4);
-    let [run, signed] = [0, 1].map(|i| word_at(run.as_slice(), i));
-    let [answer, row, turns] = [0, 1, 2].map(|i| word_at(reading.as_slice(), i));
-    let held = Held {
-        answer: answer_of(run),
-        view: View {
-            graph: Graph(graph.as_slice()),
-            state: State(state.as_slice()),
-            names: Names {
-                nodes: &[],
-                wires: &[],
-            },
-            signed: signed == 1,
+    let signed = word_at(run.as_slice(), 1) == 1;
+    let answer = answer_of(word_at(run.as_slice(), 0));
+    let reading = reading.as_slice();
+    let plain = plain_of(
+        word_at(reading, 0),
+        word_at(reading, 1),
+        word_at(reading, 2) as u64,
+    );
+    let view = view_of(graph.as_slice(), state.as_slice(), signed);
+    tell(rt, answer, plain, view, results.as_slice());
+}
+
+fn view_of<'a>(graph: &'a [u32], state: &'a [u32], signed: bool) -> View<'a> {
+    View {
+        graph: Graph(graph),
+        state: State(state),
+        names: Names {
+            nodes: &[],
+            wires: &[],
         },
-        plain: plain_of(answer, row, turns as u64),
-        results: results.as_slice(),
+        signed,
+    }
+}
+
+fn tell<R: Channels>(
+    rt: &R,
+    answer: Answer,
+    plain: Result<Plain, Refused>,
+    view: View<'_>,
+    results: &[u32],
+) {
+    let held = Held {
+        answer,
+        view,
+        plain,
+        results,
     };
     let mut memory = [0u8; 65536];
     let mut page = Page::new(&mut memory);
