@@ -112,7 +112,7 @@ fn enter(
     b: u32,
     outer: u32,
 ) -> u32
-    requires { Takes notes.now.passed.words.now v b × Room notes.now.passed.words.now bases.now.nodes bases.now.wires × Entering notes.now.passed.words.now v copies.old.counts copies.old.lasts × (length rows.old ≡ 28672) }
+    requires { Takes notes.now.passed.words.now v b × Room notes.now.passed.words.now bases.now.nodes bases.now.wires × Entering notes.now.passed.words.now v copies.old.counts copies.old.lasts }
     ensures { Entered notes.now.passed.words.now v b bases.now.nodes bases.now.wires outer copies.old.lasts rows.old copies.new.counts copies.new.lasts rows.new result }
 {
     let w = carrying::noted_at(&bases.wires, b);
@@ -144,7 +144,7 @@ fn resolve(
     own: u32,
     b: u32,
 ) -> u32
-    requires { (v < notes.now.passed.rows) × (h ≡ home notes.now.passed.words.now v) × OnTheWay notes.now.passed.words.now v b × Carries notes.now.passed.words.now v b × Room notes.now.passed.words.now bases.now.nodes bases.now.wires × Entering notes.now.passed.words.now v copies.old.counts copies.old.lasts × (length rows.old ≡ 28672) }
+    requires { (v < notes.now.passed.rows) × (h ≡ home notes.now.passed.words.now v) × OnTheWay notes.now.passed.words.now v b × Carries notes.now.passed.words.now v b × Room notes.now.passed.words.now bases.now.nodes bases.now.wires × Entering notes.now.passed.words.now v copies.old.counts copies.old.lasts }
     ensures { Resolved notes.now.passed.words.now v b bases.now.nodes bases.now.wires own copies.old.lasts rows.old copies.new.counts copies.new.lasts rows.new result }
 {
     if b == h {
@@ -165,7 +165,7 @@ fn resolve_use(
     v: u32,
     p: u32,
 )
-    requires { UseAt notes.now.passed.words.now v p × Room notes.now.passed.words.now bases.now.nodes bases.now.wires × Entering notes.now.passed.words.now v copies.old.counts copies.old.lasts × (length rows.old ≡ 28672) × (length at.old ≡ 1536) }
+    requires { UseAt notes.now.passed.words.now v p × Room notes.now.passed.words.now bases.now.nodes bases.now.wires × Entering notes.now.passed.words.now v copies.old.counts copies.old.lasts }
     ensures { UseResolved notes.now.passed.words.now v p bases.now.nodes bases.now.wires copies.old.lasts rows.old at.old copies.new.counts copies.new.lasts rows.new at.new }
 {
     let h = notes.home_of(v);
@@ -183,7 +183,7 @@ fn resolve_uses(
     at: &mut [u32; 1536],
     v: u32,
 )
-    requires { Room notes.now.passed.words.now bases.now.nodes bases.now.wires × (v < notes.now.passed.rows) × Counting notes.now.passed.words.now v copies.old.counts copies.old.lasts × (length rows.old ≡ 28672) × (length at.old ≡ 1536) }
+    requires { Room notes.now.passed.words.now bases.now.nodes bases.now.wires × (v < notes.now.passed.rows) × Counting notes.now.passed.words.now v copies.old.counts copies.old.lasts }
     ensures { UsesResolved notes.now.passed.words.now v bases.now.nodes bases.now.wires rows.old at.old copies.new.counts copies.new.lasts rows.new at.new }
 {
     // A chain of links has no iterator of its own: each step reads the link of the operand just resolved.
@@ -203,7 +203,7 @@ fn resolve_values(
     rows: &mut [u32; 28672],
     at: &mut [u32; 1536],
 )
-    requires { Room notes.now.passed.words.now bases.now.nodes bases.now.wires × Counting notes.now.passed.words.now 0 copies.old.counts copies.old.lasts × (length rows.old ≡ 28672) × (length at.old ≡ 1536) }
+    requires { Room notes.now.passed.words.now bases.now.nodes bases.now.wires × Counting notes.now.passed.words.now 0 copies.old.counts copies.old.lasts }
     ensures { Values notes.now.passed.words.now notes.now.passed.rows bases.now.nodes bases.now.wires copies.new.counts copies.new.lasts rows.new at.new }
 {
     for v in 0..notes.passed.rows {
@@ -345,7 +345,7 @@ fn lay_arg(notes: &Notes, bases: &Bases, at: &[u32; 1536], rows: &mut [u32; 2867
 
 // The nodes of row r, but for the copies of a loop.
 fn lay_row(notes: &Notes, bases: &Bases, at: &[u32; 1536], rows: &mut [u32; 28672], r: u32)
-    requires { Known notes.now.passed.words.now notes.now.bodies notes.now.pairs bases.now.nodes bases.now.wires at.now × (r < size notes.now.passed.words.now) × (length rows.old ≡ 28672) }
+    requires { Known notes.now.passed.words.now notes.now.bodies notes.now.pairs bases.now.nodes bases.now.wires at.now × (r < size notes.now.passed.words.now) }
     ensures { RowLaid notes.now.passed.words.now r rows.old rows.new }
 {
     match notes.passed.kind(r) {
@@ -359,7 +359,7 @@ fn lay_row(notes: &Notes, bases: &Bases, at: &[u32; 1536], rows: &mut [u32; 2867
 
 // The nodes of all rows.
 fn lay_rows(notes: &Notes, bases: &Bases, at: &[u32; 1536], rows: &mut [u32; 28672])
-    requires { Known notes.now.passed.words.now notes.now.bodies notes.now.pairs bases.now.nodes bases.now.wires at.now × (length rows.old ≡ 28672) }
+    requires { Known notes.now.passed.words.now notes.now.bodies notes.now.pairs bases.now.nodes bases.now.wires at.now }
     ensures { RowsLaid notes.now.passed.words.now notes.now.passed.rows rows.old rows.new }
 {
     for r in 0..notes.passed.rows {
@@ -383,7 +383,7 @@ fn lay_out(passed: &Passed, at: &[u32; 1536], outs: &mut [u32; 512], r: u32, k: 
 
 // The wire of each result.
 fn lay_outs(passed: &Passed, at: &[u32; 1536], outs: &mut [u32; 512])
-    requires { Operands passed.now.words.now at.now × (length outs.old ≡ 512) }
+    requires { Operands passed.now.words.now at.now }
     ensures { Outs passed.now.words.now outs.new }
 {
     let mut k = 0;
@@ -394,8 +394,7 @@ fn lay_outs(passed: &Passed, at: &[u32; 1536], outs: &mut [u32; 512])
 
 // How many values each loop carries: a walk over the values with all bases 0, which leaves nothing right in the rows.
 fn count_copies(notes: &Notes, rows: &mut [u32; 28672]) -> [u32; 512]
-    requires { length rows.old ≡ 28672 }
-    ensures { Counted notes.now.passed.words.now result × (length rows.new ≡ 28672) }
+    ensures { Counted notes.now.passed.words.now result }
 {
     let mut copies = Copies::none();
     let mut at = [0; 1536];
@@ -405,7 +404,7 @@ fn count_copies(notes: &Notes, rows: &mut [u32; 28672]) -> [u32; 512]
 
 // The nodes and results of a table whose nodes fit: the copies, the rows, the results.
 fn lay_all(notes: &Notes, bases: &Bases, rows: &mut [u32; 28672], outs: &mut [u32; 512])
-    requires { BasesOf notes.now.passed.words.now bases.now.nodes bases.now.wires × Low bases.now.wires × (plain_nodes notes.now.passed.words.now ≤ 4096) × (length rows.old ≡ 28672) × (length outs.old ≡ 512) }
+    requires { BasesOf notes.now.passed.words.now bases.now.nodes bases.now.wires × Low bases.now.wires × (plain_nodes notes.now.passed.words.now ≤ 4096) }
     ensures { Laid notes.now.passed.words.now rows.new × Outs notes.now.passed.words.now outs.new }
 {
     let mut copies = Copies::none();
@@ -426,7 +425,6 @@ pub struct Counts {
 
 // Counts what the table lays down, and lays it down where the nodes fit.
 pub fn lay(passed: &Passed, rows: &mut [u32; 28672], outs: &mut [u32; 512]) -> Counts
-    requires { (length rows.old ≡ 28672) × (length outs.old ≡ 512) }
     ensures { (result.nodes ≡ plain_nodes passed.now.words.now) × (result.wires ≡ plain_wires passed.now.words.now) × (result.starts ≡ start_total passed.now.words.now) × (result.results ≡ result_total passed.now.words.now) × ((plain_nodes passed.now.words.now ≤ 4096) → Laid passed.now.words.now rows.new × Outs passed.now.words.now outs.new) }
 {
     let starts = passed.count_starts();

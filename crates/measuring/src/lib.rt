@@ -41,7 +41,6 @@ pub fn measure(
     rows: &mut [u32; 28672],
     outs: &mut [u32; 512],
 ) -> Result<Sizes, Refused>
-    requires { (length rows.old ≡ 28672) × (length outs.old ≡ 512) }
     ensures answer { answer (refused_number result) (refused_row result) ≡ cond (room.in_limits passed.now.words.now) (answer 0 0) (answer 10 (size passed.now.words.now)) }
     ensures ready { IfOk result (λ s. Ready passed.now.words.now rows.new outs.new s.uses.count s.uses.free × Counted passed.now.words.now s.plain s.sources s.nodes s.wires s.starts s.results) }
 {

@@ -64,7 +64,7 @@ fn lies_in(notes: &Notes, l: u32, b: u32) -> bool
 
 // Marks the values that row r names.
 fn mark_operands(table: &[u32], r: u32, count: u32, marks: &mut [u32; 512])
-    requires { (r < size table.now) × (r < 512) × (count ≤ 3) × ((j : ℕ) → j < count → operand table.now r j < 512) × (length marks.old ≡ 512) }
+    requires { (r < size table.now) × (r < 512) × (count ≤ 3) × ((j : ℕ) → j < count → operand table.now r j < 512) }
     ensures { Marked table.now r count marks.old marks.new }
 {
     for j in 0..count {

@@ -16,7 +16,7 @@ pub overflow_add-result-then-copies-b : goal.overflow_add-result-then-copies-b
 overflow_add-result-then-copies-b c = let P = c.requires in omega (arith, P.1.wire c.args.b, c.noted_at-w.ensures, place_small _ _ _ P.1 _ _ P.0 _ _ _ P.2 refl)
 
 pub returns-then-copies-b : goal.returns-then-copies-b
-returns-then-copies-b c = let P = c.requires in entered_there _ _ _ P.1 _ _ P.0 _ _ _ _ _ _ P.2 P.3 c.noted_at-w.ensures refl (c.if-copies-b.true ∙ add-one _)
+returns-then-copies-b c = let P = c.requires in entered_there _ _ _ P.1 _ _ P.0 _ _ _ _ _ _ P.2 (omega arith) c.noted_at-w.ensures refl (c.if-copies-b.true ∙ add-one _)
 
 pub lay_copy-requires : goal.lay_copy-requires
 lay_copy-requires c = let P = c.requires in
@@ -36,4 +36,4 @@ overflow_add-result-3 c = let P = c.requires in omega (arith, P.1.wire c.args.b,
 
 pub returns : goal.returns
 returns c = let P = c.requires in
-    entered_new _ _ _ P.1 _ _ P.0 (right_table_has_structure _ c.args.notes.now.noted.passing.right) _ _ _ _ _ _ _ _ _ P.2 P.3 c.noted_at.ensures c.noted_at-w.ensures refl (λ z. c.if-copies-b.false (z ∙ sym (add-one _))) c.sort_at.ensures c.lay_copy.ensures
+    entered_new _ _ _ P.1 _ _ P.0 (right_table_has_structure _ c.args.notes.now.noted.passing.right) _ _ _ _ _ _ _ _ _ P.2 (omega arith) c.noted_at.ensures c.noted_at-w.ensures refl (λ z. c.if-copies-b.false (z ∙ sym (add-one _))) c.sort_at.ensures c.lay_copy.ensures

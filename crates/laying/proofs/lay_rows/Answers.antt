@@ -4,10 +4,10 @@ use Rattle.laying.proofs.Nodes.{no_rows, one_row, all_rows}
 use Rattle.laying.proofs.lay_rows.Goals as goal
 
 pub loop-r-init : goal.loop-r-init
-loop-r-init c = no_rows _ _ c.requires.1
+loop-r-init c = no_rows _ _ (omega arith)
 
 pub lay_row-requires : goal.lay_row-requires
-lay_row-requires c = (c.requires.0, omega (arith, c.args.notes.now.passed.passing.rows, c.loop-r-test.true), c.loop-r.invariant.long)
+lay_row-requires c = (c.requires, omega (arith, c.args.notes.now.passed.passing.rows, c.loop-r-test.true))
 
 pub loop-r-preserved : goal.loop-r-preserved
 loop-r-preserved c = one_row _ _ _ _ _ c.loop-r.invariant c.lay_row.ensures

@@ -1,4 +1,5 @@
 -- `laying::resolve_use` meets its contract. Assumes nothing.
+use Rattle.std.proofs.Common.{arith}
 use Rattle.laying.proofs.Uses.{value_below, is_value, row_below_lem, place_below, way, carried_on_the_way, use_resolved}
 use Rattle.laying.proofs.resolve_use.Goals as goal
 
@@ -14,10 +15,10 @@ reads_of-b-requires c = row_below_lem _ _ c.args.notes.now.noted.passing _ _ c.r
 pub resolve-requires : goal.resolve-requires
 resolve-requires c = let P = c.requires in let N = c.args.notes.now.noted in
     let b = c.reads_of-b.ensures in
-    (value_below _ _ N.passing _ _ P.0, c.home_of-h.ensures, way _ _ N.passing _ _ P.0 _ b, carried_on_the_way _ _ N.passing _ _ P.0 _ b, P.1, P.2, P.3)
+    (value_below _ _ N.passing _ _ P.0, c.home_of-h.ensures, way _ _ N.passing _ _ P.0 _ b, carried_on_the_way _ _ N.passing _ _ P.0 _ b, P.1, P.2)
 
 pub bounds-at-p : goal.bounds-at-p
 bounds-at-p c = let P = c.requires in let N = c.args.notes.now.noted in place_below _ _ N.passing _ _ P.0
 
 pub returns : goal.returns
-returns c = let P = c.requires in let N = c.args.notes.now.noted in use_resolved _ _ N.passing _ _ P.0 _ c.reads_of-b.ensures _ _ _ _ _ _ _ _ _ _ P.4 c.home_wire-own.ensures c.resolve.ensures
+returns c = let P = c.requires in let N = c.args.notes.now.noted in use_resolved _ _ N.passing _ _ P.0 _ c.reads_of-b.ensures _ _ _ _ _ _ _ _ _ _ (omega arith) c.home_wire-own.ensures c.resolve.ensures

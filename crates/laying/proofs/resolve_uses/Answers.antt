@@ -7,7 +7,7 @@ pub noted_at-c-requires : goal.noted_at-c-requires
 noted_at-c-requires c = let P = c.requires in let N = c.args.notes.now.noted in omega (arith, P.1, N.passing.few)
 
 pub loop-c-init : goal.loop-c-init
-loop-c-init c = let P = c.requires in let N = c.args.notes.now.noted in first_use _ _ N.passing _ _ _ _ N.uses_noted _ P.1 _ _ _ _ _ c.noted_at-c.ensures P.2 P.3 P.4
+loop-c-init c = let P = c.requires in let N = c.args.notes.now.noted in first_use _ _ N.passing _ _ _ _ N.uses_noted _ P.1 _ _ _ _ _ c.noted_at-c.ensures P.2 (omega arith) (omega arith)
 
 pub overflow_sub-p : goal.overflow_sub-p
 overflow_sub-p c = omega (arith, c.loop-c-test.true)
@@ -15,7 +15,7 @@ overflow_sub-p c = omega (arith, c.loop-c-test.true)
 pub resolve_use-requires : goal.resolve_use-requires
 resolve_use-requires c = let P = c.requires in let N = c.args.notes.now.noted in
     let G = c.loop-c.invariant in
-    (use_at _ _ N.passing _ _ _ _ N.uses_noted _ P.1 _ _ _ _ _ _ _ G c.loop-c-test.true, P.0, G.next, G.long, G.at_long)
+    (use_at _ _ N.passing _ _ _ _ N.uses_noted _ P.1 _ _ _ _ _ _ _ G c.loop-c-test.true, P.0, G.next)
 
 pub overflow_cast-c : goal.overflow_cast-c
 overflow_cast-c c = let P = c.requires in let N = c.args.notes.now.noted in omega (arith, place_below _ _ N.passing _ _ (use_at _ _ N.passing _ _ _ _ N.uses_noted _ P.1 _ _ _ _ _ _ _ c.loop-c.invariant c.loop-c-test.true))

@@ -7,7 +7,7 @@ use Rattle.naming.specs.Carried.{Marked}
 use Rattle.naming.proofs.mark_operands.Goals as goal
 
 pub loop-j-init : goal.loop-j-init
-loop-j-init c = none_marked _ _ _ c.requires.4
+loop-j-init c = none_marked _ _ _ (omega arith)
 
 pub operand_at-v-requires : goal.operand_at-v-requires
 operand_at-v-requires c = (c.requires.0, c.requires.1, omega arith)

@@ -15,7 +15,7 @@ pub lies_in-requires : goal.lies_in-requires
 lies_in-requires c = let a = c.args in let q = c.requires in (q.0, q.1, subst (Body a.notes.now.passed.words.now) (sym c.reads_of-b.ensures) (reads_is_body a.notes.now.passed.words.now a.notes.now.passed.rows c.args.notes.now.noted.passing a.r q.2))
 
 pub mark_operands-requires : goal.mark_operands-requires
-mark_operands-requires c = let a = c.args in let q = c.requires in let e = c.operand_count-count.ensures in let m = c.args.notes.now.noted.passing.rows in let f = c.args.notes.now.noted.passing.few in (omega arith, omega arith, e.1, operands_low a.notes.now.passed.words.now a.notes.now.passed.rows c.args.notes.now.noted.passing a.r _ q.2 (e.0 ∙ ap operand_count (c.number.ensures ∙ c.kind.ensures)), q.3.long)
+mark_operands-requires c = let a = c.args in let q = c.requires in let e = c.operand_count-count.ensures in let m = c.args.notes.now.noted.passing.rows in let f = c.args.notes.now.noted.passing.few in (omega arith, omega arith, e.1, operands_low a.notes.now.passed.words.now a.notes.now.passed.rows c.args.notes.now.noted.passing a.r _ q.2 (e.0 ∙ ap operand_count (c.number.ensures ∙ c.kind.ensures)))
 
 pub returns-then-lies_in : goal.returns-then-lies_in
 returns-then-lies_in c = let a = c.args in row_marked a.notes.now.passed.words.now a.l a.r _ _ _ c.requires.3 (c.lies_in.ensures ∙ ap (inside a.notes.now.passed.words.now a.l) c.reads_of-b.ensures) c.if-lies_in.true (c.operand_count-count.ensures.0 ∙ ap operand_count (c.number.ensures ∙ c.kind.ensures)) c.mark_operands.ensures
