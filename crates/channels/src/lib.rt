@@ -51,7 +51,7 @@ pub fn tell<R: Channels>(rt: &R, to: Channel, text: &[u8]) {
     let _ = rt.send(to, text);
 }
 
-// Reads until there is no more, the text is full, or a read fails; how many letters there are.
+// Reads until there is no more, the text is full, or a read fails; how many letters there are. A `while`, since a read gives as many as it likes.
 pub fn read_full<F: Read>(from: &mut F, text: &mut [u8]) -> usize
     ensures { result ≤ length text.new }
 {

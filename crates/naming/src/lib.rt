@@ -47,7 +47,7 @@ const FORKED: u32 = 16;
 
 const DRAINED: u32 = 32;
 
-// Whether body b is loop l, or lies in it: outward from b.
+// Whether body b is loop l, or lies in it: outward from b. A `while`, since each step reads the body around the last.
 fn lies_in(notes: &Notes, l: u32, b: u32) -> bool
     requires { (l < notes.now.passed.rows) × (kind_at notes.now.passed.words.now l ≡ 4) × Body notes.now.passed.words.now b }
     ensures { result ≡ sources.inside notes.now.passed.words.now l b }

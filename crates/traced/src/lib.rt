@@ -225,7 +225,7 @@ fn note<R: Channels>(how: &How<'_, R>, graph: &[u32], turns: u64, firings: u64) 
     0
 }
 
-// Sweeps until one fires nothing.
+// Sweeps until one fires nothing: that ends the loop, and no count.
 fn sweep_all<R: Channels>(
     how: &How<'_, R>,
     graph: &[u32],
