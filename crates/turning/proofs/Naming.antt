@@ -19,7 +19,7 @@ use Rattle.table.specs.declared.Kind.{Kind}
 use Rattle.table.specs.Right.{TableRight}
 use Rattle.structure.specs.Structure.{Structure, right_table_has_structure}
 use Rattle.reading.specs.Reading.{set_row, choose}
-use Rattle.turning.specs.Words.{env_of, Names}
+use Rattle.turning.specs.Words.{Passes, env_of, Names}
 
 module _ (t : List ℕ) (ok : TableRight t) where
   abbrev S : Structure t
@@ -81,10 +81,11 @@ word_is_set e r w l = λ i x. set_at e r w x l i
 pub few_rows : (t : List ℕ) → TableRight t → size t ≤ 512
 few_rows t ok = (right_table_has_structure t ok).few
 
--- what reading a named word asks of a row, and of the row named
-pub row_asked : (t : List ℕ) → TableRight t → (r : ℕ) → r < size t → (r < size t) × (r < 512)
-row_asked t ok r l = let f = (right_table_has_structure t ok).few in (l, omega arith)
+-- a row below the row count is a row of the table
+pub row_in : {t : List ℕ} {n r : ℕ} → Passes t n → r < n → r < size t
+row_in P l = let e = P.rows in omega arith
 
+-- what reading a named word asks of a row, and of the row named
 pub named_asked : (t : List ℕ) → TableRight t → (r k : ℕ) → Names t r k → (r < size t) × (r < 512) × (k < 6)
 named_asked t ok r k n = let f = (right_table_has_structure t ok).few in let l = n.row in (l, omega arith, n.few)
 

@@ -1,15 +1,13 @@
 -- A body runs its loops, a loop its turns, and a turn its body.
 use Rattle.walking.proofs.Walking.{stays, walks_on, row_halts, body_halts, stands_still, op_walks, pick_walks, other_walks, end_few, first_below, one_deeper, room, opens_zero, opens_none, opens_spent, turns_walk, end_is, turn_leaves, turn_spent, turn_again}
 use Rattle.std.proofs.lemmas.Result.{err_from_is_err_and}
-use Rattle.turning.proofs.Naming.{for_names, same_kind, other_kind}
-use Rattle.table.specs.Rows.{size}
+use Rattle.turning.proofs.Naming.{row_in, for_names, same_kind, other_kind}
 use Rattle.table.specs.Kinds.{apart}
 use Rattle.table.specs.declared.Kind.TheVariants.{Op, Pick, For, End}
 use lib.ListN.{length}
 use native.Mathlib.Omega.{arith}
 use mathlib.Core.Logic.{inl, inr}
 use mathlib.Core.Path.{refl, sym, ap, ◌∙◌}
-use Prim.Native.Nat.{◌<◌}
 use Rattle.walking.proofs.+body_laps_row_turns.Goals as goal
 
 pub body-loop-i-init : goal.body-loop-i-init
@@ -37,25 +35,25 @@ pub body-returns : goal.body-returns
 body-returns t c = let h = c.loop-i-test.false in let w = c.loop-i.invariant.within in let e = c.args.loops.now.rows.passes.rows in (c.loop-i.invariant, inr (omega arith))
 
 pub laps-named-requires : goal.laps-named-requires
-laps-named-requires t c = let p = c.requires in let P = c.args.loops.now.rows.passes in let h = p.0 in let e = P.rows in let lt : c.args.l < size c.args.loops.now.rows.table.now = omega arith in let ok = P.right in (for_names _ ok _ lt p.1).1.0
+laps-named-requires t c = let P = c.args.loops.now.rows.passes in let l = row_in P c.requires.0 in (for_names _ P.right _ l c.requires.1).1.0
 
 pub laps-returns-then-named-eq0 : goal.laps-returns-then-named-eq0
-laps-returns-then-named-eq0 t c = let p = c.requires in let P = c.args.loops.now.rows.passes in let h = p.0 in let e = P.rows in let lt : c.args.l < size c.args.loops.now.rows.table.now = omega arith in let ok = P.right in opens_zero _ ok _ lt p.1 _ _ c.named.ensures c.if-named-eq0.true
+laps-returns-then-named-eq0 t c = let P = c.args.loops.now.rows.passes in let l = row_in P c.requires.0 in opens_zero _ P.right _ l c.requires.1 _ _ c.named.ensures c.if-named-eq0.true
 
 pub laps-named-start-requires : goal.laps-named-start-requires
-laps-named-start-requires t c = let p = c.requires in let P = c.args.loops.now.rows.passes in let h = p.0 in let e = P.rows in let lt : c.args.l < size c.args.loops.now.rows.table.now = omega arith in let ok = P.right in (for_names _ ok _ lt p.1).0
+laps-named-start-requires t c = let P = c.args.loops.now.rows.passes in let l = row_in P c.requires.0 in (for_names _ P.right _ l c.requires.1).0
 
 pub laps-pass_over-requires : goal.laps-pass_over-requires
 laps-pass_over-requires t c = rw c.at-place.ensures.0 c.at-place.ensures.1
 
 pub laps-overflow_add-result : goal.laps-overflow_add-result
-laps-overflow_add-result t c = let p = c.requires in let P = c.args.loops.now.rows.passes in let h = p.0 in let e = P.rows in let lt : c.args.l < size c.args.loops.now.rows.table.now = omega arith in let ok = P.right in let f = end_few _ ok _ lt p.1 c.at-place.ensures.1.last in omega arith
+laps-overflow_add-result t c = let P = c.args.loops.now.rows.passes in let l = row_in P c.requires.0 in let f = end_few _ P.right _ l c.requires.1 c.at-place.ensures.1.last in omega arith
 
 pub laps-returns-then-holds-eq0 : goal.laps-returns-then-holds-eq0
-laps-returns-then-holds-eq0 t c = let p = c.requires in let P = c.args.loops.now.rows.passes in let h = p.0 in let e = P.rows in let lt : c.args.l < size c.args.loops.now.rows.table.now = omega arith in let ok = P.right in opens_none _ ok _ lt p.1 _ _ c.named.ensures c.if-named-eq0.false c.named-start.ensures c.holds.ensures c.if-holds-eq0.true c.at-place.ensures.1.last (rw c.at-place.ensures.0 at c.pass_over.ensures)
+laps-returns-then-holds-eq0 t c = let P = c.args.loops.now.rows.passes in let l = row_in P c.requires.0 in opens_none _ P.right _ l c.requires.1 _ _ c.named.ensures c.if-named-eq0.false c.named-start.ensures c.holds.ensures c.if-holds-eq0.true c.at-place.ensures.1.last (rw c.at-place.ensures.0 at c.pass_over.ensures)
 
 pub laps-returns-then-allow-eq0 : goal.laps-returns-then-allow-eq0
-laps-returns-then-allow-eq0 t c = let p = c.requires in let P = c.args.loops.now.rows.passes in let h = p.0 in let e = P.rows in let lt : c.args.l < size c.args.loops.now.rows.table.now = omega arith in let ok = P.right in opens_spent _ ok _ lt p.1 _ _ c.named.ensures c.if-named-eq0.false c.named-start.ensures c.holds.ensures c.if-holds-eq0.false c.if-allow-eq0.true
+laps-returns-then-allow-eq0 t c = let P = c.args.loops.now.rows.passes in let l = row_in P c.requires.0 in opens_spent _ P.right _ l c.requires.1 _ _ c.named.ensures c.if-named-eq0.false c.named-start.ensures c.holds.ensures c.if-holds-eq0.false c.if-allow-eq0.true
 
 pub laps-first_turn-requires : goal.laps-first_turn-requires
 laps-first_turn-requires t c = rw c.at-place.ensures.0 c.at-place.ensures.1
@@ -67,11 +65,11 @@ pub laps-turns-requires : goal.laps-turns-requires
 laps-turns-requires t c = let m = c.decreases in rw c.at-place.ensures.0 (omega arith, c.at-place.ensures.1)
 
 pub laps-returns : goal.laps-returns
-laps-returns t c = let p = c.requires in let P = c.args.loops.now.rows.passes in let h = p.0 in let e = P.rows in let lt : c.args.l < size c.args.loops.now.rows.table.now = omega arith in let ok = P.right in turns_walk _ ok _ lt p.1 _ _ c.named.ensures c.if-named-eq0.false c.named-start.ensures c.holds.ensures c.turns.result _ _ c.if-holds-eq0.false c.if-allow-eq0.false c.at-place.ensures.1.at.first_row (rw c.at-place.ensures.0 at c.first_turn.ensures) (rw c.at-place.ensures.0 at c.turns.ensures)
+laps-returns t c = let P = c.args.loops.now.rows.passes in let l = row_in P c.requires.0 in turns_walk _ P.right _ l c.requires.1 _ _ c.named.ensures c.if-named-eq0.false c.named-start.ensures c.holds.ensures c.turns.result _ _ c.if-holds-eq0.false c.if-allow-eq0.false c.at-place.ensures.1.at.first_row (rw c.at-place.ensures.0 at c.first_turn.ensures) (rw c.at-place.ensures.0 at c.turns.ensures)
 
 pub row-laps-requires : goal.row-laps-requires
-row-laps-requires t c = let p = c.requires in let P = c.args.loops.now.rows.passes in let h = p.0 in let e = P.rows in let lt : c.args.i < size c.args.loops.now.rows.table.now = omega arith in let k = sym c.in-For.ensures in let m = c.decreases in let q = room _ P.right _ lt k in
-    (omega arith, (p.0, k))
+row-laps-requires t c = let P = c.args.loops.now.rows.passes in let l = row_in P c.requires.0 in let k = sym c.in-For.ensures in let m = c.decreases in let q = room _ P.right _ l k in
+    (omega arith, (c.requires.0, k))
 
 pub row-returns-in-For : goal.row-returns-in-For
 row-returns-in-For t c = c.laps.ensures
@@ -83,16 +81,16 @@ pub row-overflow_add-next : goal.row-overflow_add-next
 row-overflow_add-next t c = omega (arith, c.requires.0, c.args.loops.now.rows.passes.few)
 
 pub row-returns-in-Op : goal.row-returns-in-Op
-row-returns-in-Op t c = let p = c.requires in let P = c.args.loops.now.rows.passes in let h = p.0 in let e = P.rows in let lt : c.args.i < size c.args.loops.now.rows.table.now = omega arith in op_walks _ _ _ _ _ lt c.in-Op.ensures refl c.op_row.ensures
+row-returns-in-Op t c = let P = c.args.loops.now.rows.passes in let l = row_in P c.requires.0 in op_walks _ _ _ _ _ l c.in-Op.ensures refl c.op_row.ensures
 
 pub row-pick_row-requires : goal.row-pick_row-requires
 row-pick_row-requires t c = (c.requires.0, sym c.in-Pick.ensures)
 
 pub row-returns-in-Pick : goal.row-returns-in-Pick
-row-returns-in-Pick t c = let p = c.requires in let P = c.args.loops.now.rows.passes in let h = p.0 in let e = P.rows in let lt : c.args.i < size c.args.loops.now.rows.table.now = omega arith in pick_walks _ _ _ _ _ lt c.in-Pick.ensures refl c.pick_row.ensures
+row-returns-in-Pick t c = let P = c.args.loops.now.rows.passes in let l = row_in P c.requires.0 in pick_walks _ _ _ _ _ l c.in-Pick.ensures refl c.pick_row.ensures
 
 pub row-returns-in_default : goal.row-returns-in_default
-row-returns-in_default t c = let p = c.requires in let P = c.args.loops.now.rows.passes in let h = p.0 in let e = P.rows in let lt : c.args.i < size c.args.loops.now.rows.table.now = omega arith in other_walks _ _ _ _ _ lt c.kind.ensures (apart _ Op c.in_default.not-Op) (apart _ Pick c.in_default.not-Pick) (apart _ For c.in_default.not-For) p.1 refl
+row-returns-in_default t c = let P = c.args.loops.now.rows.passes in let l = row_in P c.requires.0 in other_walks _ _ _ _ _ l c.kind.ensures (apart _ Op c.in_default.not-Op) (apart _ Pick c.in_default.not-Pick) (apart _ For c.in_default.not-For) c.requires.1 refl
 
 pub turns-loop-end-init : goal.turns-loop-end-init
 turns-loop-end-init t c = (stays _ _ _ _, omega arith)

@@ -1,3 +1,4 @@
+use Rattle.turning.proofs.Naming.{row_in}
 use Rattle.turning.proofs.Beginning.{input_inside, input_word, const_word, other_word}
 use Rattle.table.specs.Kinds.{apart}
 use Rattle.table.specs.Counted.{rows_of, rows_few}
@@ -8,7 +9,7 @@ use mathlib.Core.Path.{◌∙◌, sym, ap}
 use Rattle.turning.proofs.Rows.first_word.Goals as goal
 
 pub bounds-inputs-before : goal.bounds-inputs-before
-bounds-inputs-before c = let P = c.args.self.now.passes in input_inside _ _ _ _ (omega (arith, c.requires.0, P.rows)) c.requires.1 (c.requires.2 ∙ ap (rows_of 0 c.args.self.now.table.now) P.rows) (sym c.in-Input.ensures)
+bounds-inputs-before c = let P = c.args.self.now.passes in input_inside _ _ _ _ (row_in P c.requires.0) c.requires.1 (c.requires.2 ∙ ap (rows_of 0 c.args.self.now.table.now) P.rows) (sym c.in-Input.ensures)
 
 pub offset_bounds-inputs-before : goal.offset_bounds-inputs-before
 offset_bounds-inputs-before c = let P = c.args.self.now.passes in let f = rows_few 0 c.args.self.now.table.now c.args.r in omega (arith, c.requires.0, c.requires.1, P.few)
@@ -17,7 +18,7 @@ pub returns-in-Input : goal.returns-in-Input
 returns-in-Input c = ap (λ x. get_or c.args.inputs.now x 0) c.requires.1 ∙ sym (input_word _ _ _ (sym c.in-Input.ensures))
 
 pub word_at-requires : goal.word_at-requires
-word_at-requires c = let P = c.args.self.now.passes in (omega (arith, c.requires.0, P.rows), omega (arith, c.requires.0, P.few), omega arith)
+word_at-requires c = let P = c.args.self.now.passes in (row_in P c.requires.0, omega (arith, c.requires.0, P.few), omega arith)
 
 pub returns-in-Const : goal.returns-in-Const
 returns-in-Const c = c.word_at.ensures ∙ sym (const_word _ _ _ (sym c.in-Const.ensures))
