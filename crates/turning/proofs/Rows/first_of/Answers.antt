@@ -5,17 +5,11 @@ use native.Mathlib.Omega.{arith}
 use mathlib.Core.Path.{sym, ◌∙◌}
 use Rattle.turning.proofs.Rows.first_of.Goals as goal
 
-pub overflow_add-r : goal.overflow_add-r
-overflow_add-r c = let P = c.args.self.now.passes in omega (arith, c.requires.0, P.few)
-
 pub loop-r-init : goal.loop-r-init
 loop-r-init c = let P = c.args.self.now.passes in (omega arith, first_above _ P.right _ (row_in P c.requires.0) c.requires.1)
 
 pub kind-requires : goal.kind-requires
 kind-requires c = let P = c.args.self.now.passes in let f = first_inside_table _ P.right _ (row_in P c.requires.0) c.requires.1 _ c.loop-r.invariant.1 in omega (arith, f.0, P.rows)
-
-pub overflow_add-r-in-loop-r : goal.overflow_add-r-in-loop-r
-overflow_add-r-in-loop-r c = let P = c.args.self.now.passes in omega (arith, (first_inside_table _ P.right _ (row_in P c.requires.0) c.requires.1 _ c.loop-r.invariant.1).1)
 
 pub loop-r-smaller : goal.loop-r-smaller
 loop-r-smaller c = let P = c.args.self.now.passes in omega (arith, one_arg_more _ P.right _ (row_in P c.requires.0) c.requires.1 _ _ c.loop-r.invariant.1 c.kind.ensures (same_kind _ Arg (sym c.eq.ensures ∙ c.loop-r-test.true)))

@@ -17,9 +17,6 @@ offset_bounds-inputs-before c = let P = c.args.self.now.passes in let f = rows_f
 pub returns-in-Input : goal.returns-in-Input
 returns-in-Input c = ap (λ x. get_or c.args.inputs.now x 0) c.requires.1 ∙ sym (input_word _ _ _ (sym c.in-Input.ensures))
 
-pub word_at-requires : goal.word_at-requires
-word_at-requires c = let P = c.args.self.now.passes in (row_in P c.requires.0, omega (arith, c.requires.0, P.few), omega arith)
-
 pub returns-in-Const : goal.returns-in-Const
 returns-in-Const c = c.word_at.ensures ∙ sym (const_word _ _ _ (sym c.in-Const.ensures))
 

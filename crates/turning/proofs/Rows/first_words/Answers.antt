@@ -6,12 +6,6 @@ use Rattle.turning.proofs.Rows.first_words.Goals as goal
 pub loop-r-init : goal.loop-r-init
 loop-r-init c = (none_begun _ _, none_counted 0 _)
 
-pub first_word-requires : goal.first_word-requires
-first_word-requires c = (c.loop-r-test.true, c.loop-r.invariant.1, c.requires)
-
-pub bounds-words-r : goal.bounds-words-r
-bounds-words-r c = omega (arith, c.loop-r-test.true, c.args.self.now.passes.few, c.loop-r.invariant.0.long)
-
 pub one_more-before-requires : goal.one_more-before-requires
 one_more-before-requires c = let f = rows_few 0 c.args.self.now.table.now c.loop-r.r in omega (arith, c.loop-r-test.true, c.args.self.now.passes.few, c.loop-r.invariant.1)
 

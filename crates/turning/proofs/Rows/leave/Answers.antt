@@ -3,9 +3,6 @@ use native.Mathlib.Omega.{arith}
 use mathlib.Core.Path.{◌∙◌}
 use Rattle.turning.proofs.Rows.leave.Goals as goal
 
-pub overflow_add-k : goal.overflow_add-k
-overflow_add-k c = let f = first_inside _ _ _ c.requires.at in omega (arith, f.0, f.1, f.2, f.3)
-
 pub overflow_sub-k : goal.overflow_sub-k
 overflow_sub-k c = let f = first_inside _ _ _ c.requires.at in omega (arith, f.0)
 

@@ -4,23 +4,14 @@ use native.Mathlib.Omega.{arith}
 use mathlib.Core.Path.{◌∙◌, ap}
 use Rattle.turning.proofs.Rows.next_turn.Goals as goal
 
-pub overflow_add-k : goal.overflow_add-k
-overflow_add-k c = let f = first_inside _ _ _ c.requires.at in omega (arith, f.0, f.1, f.2, f.3)
-
 pub overflow_sub-k : goal.overflow_sub-k
 overflow_sub-k c = let f = first_inside _ _ _ c.requires.at in omega (arith, f.0)
 
 pub overflow_sub-l : goal.overflow_sub-l
 overflow_sub-l c = let f = first_inside _ _ _ c.requires.at in omega (arith, f.0, f.1, f.2, f.3, c.requires.last)
 
-pub overflow_add-l : goal.overflow_add-l
-overflow_add-l c = let f = first_inside _ _ _ c.requires.at in omega (arith, f.0, f.1, f.2, f.3)
-
 pub copy-requires : goal.copy-requires
 copy-requires c = nexts_to_args _ _ _ c.requires.at _ c.requires.last
-
-pub set_row-requires : goal.set_row-requires
-set_row-requires c = let f = first_inside _ _ _ c.requires.at in omega (arith, f.0, f.1, f.2, f.3)
 
 pub returns : goal.returns
 returns c = c.set_row.ensures ∙ ap (set_row c.args.l.now.row c.args.index) c.copy.ensures ∙ next_turn_is _ _ _ c.requires.at _ _ c.requires.last _

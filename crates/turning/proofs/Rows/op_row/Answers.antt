@@ -1,4 +1,3 @@
-use native.Mathlib.Omega.{arith}
 use Rattle.turning.proofs.Naming.{row_in, op_names}
 use Rattle.turning.proofs.Rows.op_row.Goals as goal
 
@@ -7,9 +6,3 @@ named-x-requires c = let P = c.args.self.now.passes in (op_names _ P.right _ (ro
 
 pub named-y-requires : goal.named-y-requires
 named-y-requires c = let P = c.args.self.now.passes in (op_names _ P.right _ (row_in P c.requires.0) c.requires.1).1
-
-pub word_at-requires : goal.word_at-requires
-word_at-requires c = let P = c.args.self.now.passes in (row_in P c.requires.0, omega (arith, c.requires.0, P.few), omega arith)
-
-pub set_row-requires : goal.set_row-requires
-set_row-requires c = omega (arith, c.requires.0, c.args.self.now.passes.few)

@@ -3,14 +3,8 @@ use native.Mathlib.Omega.{arith}
 use mathlib.Core.Path.{◌∙◌}
 use Rattle.turning.proofs.Rows.pass_over.Goals as goal
 
-pub overflow_add-k : goal.overflow_add-k
-overflow_add-k c = let f = first_inside _ _ _ c.requires.at in omega (arith, f.0, f.1, f.2, f.3)
-
 pub overflow_sub-k : goal.overflow_sub-k
 overflow_sub-k c = let f = first_inside _ _ _ c.requires.at in omega (arith, f.0)
-
-pub overflow_add-l : goal.overflow_add-l
-overflow_add-l c = let f = first_inside _ _ _ c.requires.at in omega (arith, f.0, f.1, f.2, f.3)
 
 pub overflow_sub-l : goal.overflow_sub-l
 overflow_sub-l c = let f = first_inside _ _ _ c.requires.at in omega (arith, f.0, f.1, f.2, f.3, c.requires.last)

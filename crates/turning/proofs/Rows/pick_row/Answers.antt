@@ -1,4 +1,3 @@
-use native.Mathlib.Omega.{arith}
 use Rattle.turning.proofs.Naming.{row_in, pick_names}
 use Rattle.turning.proofs.Rows.pick_row.Goals as goal
 
@@ -10,6 +9,3 @@ named-x-requires c = let P = c.args.self.now.passes in (pick_names _ P.right _ (
 
 pub named-y-requires : goal.named-y-requires
 named-y-requires c = let P = c.args.self.now.passes in (pick_names _ P.right _ (row_in P c.requires.0) c.requires.1).1.1
-
-pub set_row-requires : goal.set_row-requires
-set_row-requires c = omega (arith, c.requires.0, c.args.self.now.passes.few)

@@ -2,11 +2,5 @@ use Rattle.turning.proofs.Copying.{aside_one}
 use native.Mathlib.Omega.{arith}
 use Rattle.turning.proofs.Rows.put_aside.Goals as goal
 
-pub overflow_add-from : goal.overflow_add-from
-overflow_add-from c = omega (arith, c.loop-j-test.true, c.requires.rows, c.args.self.now.passes.rows, c.args.self.now.passes.few)
-
-pub bounds-aside-j : goal.bounds-aside-j
-bounds-aside-j c = omega (arith, c.loop-j-test.true, c.requires.rows, c.args.self.now.passes.rows, c.args.self.now.passes.few)
-
 pub loop-j-preserved : goal.loop-j-preserved
 loop-j-preserved c = aside_one _ _ c.loop-j.j _ _ c.loop-j.aside c.loop-j.invariant (omega (arith, c.loop-j-test.true, c.requires.rows, c.args.self.now.passes.rows, c.args.self.now.passes.few)) c.named.ensures
