@@ -1,13 +1,12 @@
 -- A body runs its loops, a loop its turns, and a turn its body.
-use Rattle.walking.proofs.Walking.{stays, walks_on, row_halts, body_halts, stands_still, op_walks, pick_walks, other_walks, end_few, first_below, one_deeper, room, opens_zero, opens_none, opens_spent, turns_walk, end_is, turn_leaves, turn_spent, turn_again}
+use Rattle.walking.proofs.Walking.{stays, walks_on, row_halts, body_halts, stands_still, op_walks, pick_walks, other_walks, end_few, first_below, one_deeper, room, opens_zero, opens_none, opens_spent, turns_walk, turn_leaves, turn_spent, turn_again}
 use Rattle.std.proofs.lemmas.Result.{err_from_is_err_and}
-use Rattle.turning.proofs.Naming.{row_in, for_names, same_kind, other_kind}
+use Rattle.turning.proofs.Naming.{row_in, for_names, same_kind}
 use Rattle.table.specs.Kinds.{apart}
 use Rattle.table.specs.declared.Kind.TheVariants.{Op, Pick, For, End}
-use lib.ListN.{length}
 use native.Mathlib.Omega.{arith}
-use mathlib.Core.Logic.{inl, inr}
-use mathlib.Core.Path.{refl, sym, ap, ◌∙◌}
+use mathlib.Core.Logic.{inl}
+use mathlib.Core.Path.{refl, sym, ◌∙◌}
 use Rattle.walking.proofs.+body_laps_row_turns.Goals as goal
 
 pub body-loop-i-init : goal.body-loop-i-init
@@ -16,23 +15,13 @@ body-loop-i-init t c = let h = c.requires in let r = c.args.loops.now.rows.passe
 pub body-returns-then-eq : goal.body-returns-then-eq
 body-returns-then-eq t c = (c.loop-i.invariant, inl (sym c.kind.ensures ∙ same_kind _ End (sym c.eq.ensures ∙ c.if-eq.true)))
 
-pub body-row-requires : goal.body-row-requires
-body-row-requires t c = let p = c.requires in let m = c.decreases in let e = ap length c.loop-i.invariant.same in
-    (omega arith, (c.loop-i-test.true, λ q. other_kind _ End (sym c.eq.ensures ∙ c.if-eq.false) (c.kind.ensures ∙ q)))
-
 pub body-returns-in_err-next : goal.body-returns-in_err-next
 body-returns-in_err-next t c = let p = err_from_is_err_and c.from_residual.result c.from_residual.ensures.1 in
     rw (p.1, p.2) (row_halts c.args.loops.now.rows.passes.right _ _ c.loop-i.invariant.moves c.loop-i.invariant.fewer c.in_err-next.ensures)
 
-pub body-loop-i-smaller : goal.body-loop-i-smaller
-body-loop-i-smaller t c = let k = c.in_ok-next.ensures in let h = k.1 in let g = c.loop-i-test.true in omega arith
-
 pub body-loop-i-preserved : goal.body-loop-i-preserved
 body-loop-i-preserved t c = let k = c.in_ok-next.ensures in
     walks_on c.args.loops.now.rows.passes.right c.loop-i.invariant k.0
-
-pub body-returns : goal.body-returns
-body-returns t c = let h = c.loop-i-test.false in let w = c.loop-i.invariant.within in let e = c.args.loops.now.rows.passes.rows in (c.loop-i.invariant, inr (omega arith))
 
 pub laps-named-requires : goal.laps-named-requires
 laps-named-requires t c = let P = c.args.loops.now.rows.passes in let l = row_in P c.requires.0 in (for_names _ P.right _ l c.requires.1).1.0
@@ -43,9 +32,6 @@ laps-returns-then-named-eq0 t c = let P = c.args.loops.now.rows.passes in let l 
 pub laps-named-start-requires : goal.laps-named-start-requires
 laps-named-start-requires t c = let P = c.args.loops.now.rows.passes in let l = row_in P c.requires.0 in (for_names _ P.right _ l c.requires.1).0
 
-pub laps-pass_over-requires : goal.laps-pass_over-requires
-laps-pass_over-requires t c = rw c.at-place.ensures.0 c.at-place.ensures.1
-
 pub laps-overflow_add-result : goal.laps-overflow_add-result
 laps-overflow_add-result t c = let P = c.args.loops.now.rows.passes in let l = row_in P c.requires.0 in let f = end_few _ P.right _ l c.requires.1 c.at-place.ensures.1.last in omega arith
 
@@ -55,15 +41,6 @@ laps-returns-then-holds-eq0 t c = let P = c.args.loops.now.rows.passes in let l 
 pub laps-returns-then-allow-eq0 : goal.laps-returns-then-allow-eq0
 laps-returns-then-allow-eq0 t c = let P = c.args.loops.now.rows.passes in let l = row_in P c.requires.0 in opens_spent _ P.right _ l c.requires.1 _ _ c.named.ensures c.if-named-eq0.false c.named-start.ensures c.holds.ensures c.if-holds-eq0.false c.if-allow-eq0.true
 
-pub laps-first_turn-requires : goal.laps-first_turn-requires
-laps-first_turn-requires t c = rw c.at-place.ensures.0 c.at-place.ensures.1
-
-pub laps-overflow_sub-allow : goal.laps-overflow_sub-allow
-laps-overflow_sub-allow t c = let h = c.if-allow-eq0.false in omega arith
-
-pub laps-turns-requires : goal.laps-turns-requires
-laps-turns-requires t c = let m = c.decreases in rw c.at-place.ensures.0 (omega arith, c.at-place.ensures.1)
-
 pub laps-returns : goal.laps-returns
 laps-returns t c = let P = c.args.loops.now.rows.passes in let l = row_in P c.requires.0 in turns_walk _ P.right _ l c.requires.1 _ _ c.named.ensures c.if-named-eq0.false c.named-start.ensures c.holds.ensures c.turns.result _ _ c.if-holds-eq0.false c.if-allow-eq0.false c.at-place.ensures.1.at.first_row (rw c.at-place.ensures.0 at c.first_turn.ensures) (rw c.at-place.ensures.0 at c.turns.ensures)
 
@@ -71,20 +48,8 @@ pub row-laps-requires : goal.row-laps-requires
 row-laps-requires t c = let P = c.args.loops.now.rows.passes in let l = row_in P c.requires.0 in let k = sym c.in-For.ensures in let m = c.decreases in let q = room _ P.right _ l k in
     (omega arith, (c.requires.0, k))
 
-pub row-returns-in-For : goal.row-returns-in-For
-row-returns-in-For t c = c.laps.ensures
-
-pub row-op_row-requires : goal.row-op_row-requires
-row-op_row-requires t c = (c.requires.0, sym c.in-Op.ensures)
-
-pub row-overflow_add-next : goal.row-overflow_add-next
-row-overflow_add-next t c = omega (arith, c.requires.0, c.args.loops.now.rows.passes.few)
-
 pub row-returns-in-Op : goal.row-returns-in-Op
 row-returns-in-Op t c = let P = c.args.loops.now.rows.passes in let l = row_in P c.requires.0 in op_walks _ _ _ _ _ l c.in-Op.ensures refl c.op_row.ensures
-
-pub row-pick_row-requires : goal.row-pick_row-requires
-row-pick_row-requires t c = (c.requires.0, sym c.in-Pick.ensures)
 
 pub row-returns-in-Pick : goal.row-returns-in-Pick
 row-returns-in-Pick t c = let P = c.args.loops.now.rows.passes in let l = row_in P c.requires.0 in pick_walks _ _ _ _ _ l c.in-Pick.ensures refl c.pick_row.ensures
@@ -102,15 +67,6 @@ turns-body-requires t c = let at = c.requires.at in let m = c.decreases in let d
 pub turns-returns-in_err-end : goal.turns-returns-in_err-end
 turns-returns-in_err-end t c = let p = err_from_is_err_and c.from_residual.result c.from_residual.ensures.1 in
     rw (p.1, p.2) (body_halts c.args.loops.now.rows.passes.right _ c.args.l.now.row _ c.loop-end.invariant.0 c.loop-end.invariant.1 c.in_err-end.ensures)
-
-pub turns-index_after-x-requires : goal.turns-index_after-x-requires
-turns-index_after-x-requires t c = let at = c.requires.at in let r = at.row in let e = c.args.loops.now.rows.passes.rows in (omega arith, at.is_for_lem)
-
-pub turns-holds-requires : goal.turns-holds-requires
-turns-holds-requires t c = let at = c.requires.at in let r = at.row in let e = c.args.loops.now.rows.passes.rows in (omega arith, at.is_for_lem)
-
-pub turns-overflow_add-result : goal.turns-overflow_add-result
-turns-overflow_add-result t c = let at = c.requires.at in let v = c.in_ok-end.ensures in let f = end_few _ at.right _ at.row at.is_for_lem (end_is _ at.right _ at.row at.is_for_lem at.first_row c.loop-end.invariant.0 v) in omega arith
 
 pub turns-returns-then-holds-eq0 : goal.turns-returns-then-holds-eq0
 turns-returns-then-holds-eq0 t c = let at = c.requires.at in let v = c.in_ok-end.ensures in turn_leaves _ at.right _ at.row at.is_for_lem at.first_row c.loop-end.invariant.0 v c.index_after-x.ensures c.holds.ensures c.loop-end.invariant.1 c.if-holds-eq0.true c.leave.ensures
