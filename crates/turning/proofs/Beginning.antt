@@ -28,6 +28,9 @@ module _ (kind : ℕ) (t : List ℕ) where
   unfolding rows_of
   one_counted r n k m a b c = rw (add-one r) (c ∙ ap (λ (x : ℕ). one_more x kind n) b ∙ ap (one_more (kind_at t r) kind) a)
 
+  pub all_counted : (n r k : ℕ) → r ≤ n → n ≤ r → k ≡ rows_of kind t r → k ≡ rows_of kind t n
+  all_counted n r k a b e = let q : r ≡ n = omega arith in e ∙ ap (rows_of kind t) q
+
 pub input_inside : (t : List ℕ) (r before len : ℕ) → r < size t → before ≡ rows_of 0 t r → len ≡ rows_of 0 t (size t) → kind_at t r ≡ 0 → before < len
 input_inside t r before len l a b k = let q = row_below_lem 0 t r (size t) l k in omega arith
 

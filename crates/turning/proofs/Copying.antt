@@ -14,7 +14,7 @@ use lib.Seq.{get_or-set_same, get_or-set_other}
 use Rattle.table.specs.Rows.{word}
 use Rattle.reading.specs.Reading.{Env, set_row}
 use Rattle.turning.specs.Words.{env_of, Names, Source, placed, copied, Aside}
-use Rattle.turning.proofs.Rows.{word_is_set}
+use Rattle.turning.proofs.Naming.{word_is_set}
 
 module _ (to k : ℕ) (words env : Env) (r : ℕ) where
   placed_low : r < to → placed to k words env r ≡ env r

@@ -1,5 +1,5 @@
 -- The laws that the proofs of the functions cite.
-pub mod Rows
+pub mod Naming
 pub mod Copying
 pub mod Scanning
 pub mod Beginning

@@ -18,7 +18,7 @@ use Rattle.table.specs.Right.{TableRight}
 use Rattle.structure.specs.Behind.{body_first, body_after_for, body_after_end, body_after_other}
 use Rattle.structure.specs.Structure.{Structure, right_table_has_structure}
 use Rattle.turning.specs.Words.{body_after, note_at, note_of, Ends}
-use Rattle.turning.proofs.Rows.{few_rows}
+use Rattle.turning.proofs.Naming.{few_rows}
 
 -- what is noted before row r
 pub record Noted (t : List ℕ) (r body : ℕ) (notes : List ℕ) : Type 0 where

@@ -18,7 +18,7 @@ use Rattle.structure.specs.Serving.{args_least}
 use Rattle.structure.specs.Structure.{Structure, right_table_has_structure, in_table}
 use Rattle.reading.specs.Reading.{Env, set_row, turn, leave, named, next_named, arg_named}
 use Rattle.turning.specs.Words.{copied, Source, Copies, LoopAt}
-use Rattle.turning.proofs.Rows.{arg_names, next_names}
+use Rattle.turning.proofs.Naming.{arg_names, next_names}
 use Rattle.turning.proofs.Copying.{placed_by}
 
 -- ---- the row behind the ARGs

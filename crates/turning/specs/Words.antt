@@ -1,11 +1,17 @@
 -- The words of the rows in lent words, and what a walk does to them.
--- Main names: `env_of`, `Names`, `placed`, `copied`, `Copies`, `LoopAt`, `Ends`, and of the scan `body_after`, `note_at`, `note_of`.
+-- Main names: `Passes`, `env_of`, `Names`, `placed`, `copied`, `Copies`, `LoopAt`, `WholeLoop`, `Ends`, and of the scan `body_after`, `note_at`, `note_of`.
 -- Assumes nothing.
 use Rattle.std.specs.Prelude.{ℕ, suc, ◌+◌, ◌-◌, ◌≤◌, ◌<◌, cond, List, ◌≡◌, eqb, ltb, get_or, length}
 use Rattle.table.specs.Rows.{kind_at, word, size, FOR, END}
 use Rattle.table.specs.Bodies.{end_of, first_of}
 use Rattle.table.specs.Right.{TableRight}
 use Rattle.reading.specs.Reading.{Env}
+
+-- the table passes, and n is its row count
+pub record Passes (t : List ℕ) (n : ℕ) : Type 0 where
+  pub right : TableRight t
+  pub rows : n ≡ size t
+  pub few : n ≤ 512
 
 -- the reading's words, from a list
 unfoldable pub env_of : List ℕ → Env
@@ -44,6 +50,11 @@ pub record LoopAt (t : List ℕ) (L first : ℕ) : Type 0 where
   pub row : L < size t
   pub is_for_lem : kind_at t L ≡ 4
   pub first_row : first ≡ first_of t L
+
+-- and with its END
+pub record WholeLoop (t : List ℕ) (L first end : ℕ) : Type 0 where
+  pub at : LoopAt t L first
+  pub last : end ≡ end_of t L
 
 -- One scan notes the ENDs. At its FOR row a loop has the body around it noted while it is open, and its END behind that: so an END finds the way back.
 -- A row of another kind notes its body too, which nothing reads. The body behind row r, the place of its note, and the note:

@@ -18,7 +18,7 @@ use Rattle.reading.specs.Reading.{Env, Opening, opening, at, on, set_row, choose
 use Rattle.reading.specs.Steps.{step_op, step_pick, step_other, step_faults, step_skips, step_opens, step_leaves, step_turns}
 use Rattle.reading.specs.Within.{turns_made, here, then, joined}
 use Rattle.reading.specs.Standing.{Opened, Standing, turn_counts, no_turn_made, one_turn_made, end_opened, reach_stands}
-use Rattle.turning.specs.Words.{env_of, LoopAt}
+use Rattle.turning.specs.Words.{env_of}
 use Rattle.std.specs.Prelude.{Ok, Err}
 use Rattle.walking.specs.declared.Halt.{Halt}
 use Rattle.walking.specs.declared.Halt.TheVariants.{ZeroStep, Spent as HaltSpent}
@@ -103,9 +103,6 @@ module _ (t : List ℕ) (i : ℕ) (e e₁ : List ℕ) (a : ℕ) (l : i < size t)
       one_row (λ z. n4 (q ∙ z)) n7 (env_of e) (ap env_of h) (λ os. step_other t i (env_of e) os l (λ z. n2 (q ∙ z)) (λ z. n3 (q ∙ z)) (λ z. n4 (q ∙ z)) n7)
 
 -- ---- the loop at row L
-pub loop_at : {t : List ℕ} {L first : ℕ} → TableRight t → L < size t → kind_at t L ≡ 4 → first ≡ first_of t L → LoopAt t L first
-loop_at ok l k q = record { right = ok; row = l; is_for_lem = k; first_row = q }
-
 module _ (t : List ℕ) (ok : TableRight t) (L : ℕ) (l : L < size t) (k : kind_at t L ≡ 4) where
   abbrev S : Structure t
   S = right_table_has_structure t ok

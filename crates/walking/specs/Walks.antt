@@ -1,6 +1,5 @@
 -- What the walkers say: from the state in which they begin, the small steps of the plain reading come to the state that they leave.
 --
---   Ready                 what every walker relies on
 --   Moves, Walk           the reading comes from one row to another, with so many turns left
 --   Faults, Dues          it comes to a zero step; it comes to where all turns are used up and one more is due
 --   Went, On, Zero, Spent   how far a walker went
@@ -11,21 +10,14 @@
 use Rattle.std.specs.Prelude.{ℕ, suc, ◌+◌, ◌<◌, ◌≤◌, List, reverse, ◌⊎◌, ◌≡◌, Result, Ok, Err}
 use Rattle.table.specs.Rows.{kind_at, size}
 use Rattle.table.specs.Bodies.{end_of}
-use Rattle.table.specs.Right.{TableRight}
 use Rattle.structure.specs.Behind.{loops_at}
 use Rattle.reading.specs.Reading.{Opening, State, at, zero_step, stop, step}
 use Rattle.reading.specs.Within.{turns_made, Reach, Due}
 use Rattle.reading.specs.Standing.{Standing}
-use Rattle.turning.specs.Words.{env_of, Ends}
+use Rattle.turning.specs.Words.{env_of}
 use Rattle.walking.specs.declared.At.{At}
 use Rattle.walking.specs.declared.Halt.{Halt}
 use Rattle.walking.specs.declared.Halt.TheVariants.{ZeroStep, Spent as HaltSpent}
-
--- a table that passes, its row count and its ENDs
-pub record Ready (t : List ℕ) (n : ℕ) (notes : List ℕ) : Type 0 where
-  pub right : TableRight t
-  pub rows : n ≡ size t
-  pub ends : Ends t notes
 
 -- row i, words e, a turns left; then row p, words e₁, l turns left
 pub record Comes (t : List ℕ) (i : ℕ) (e : List ℕ) (a p l : ℕ) (e₁ : List ℕ) (os : List Opening) : Type 0 where

@@ -9,23 +9,20 @@ pub returns-in_err-check_rows : goal.returns-in_err-check_rows
 returns-in_err-check_rows c = let p = err_from_is_err_and c.from_residual.result c.from_residual.ensures.1 in
     rw (p.1, p.2) (record { answer = refused_by_rows _ c.in_err-check_rows.ensures _ _ _ (refusal_counts _) })
 
-pub overflow_cast-n : goal.overflow_cast-n
-overflow_cast-n c = let f = few_rows _ c.in_ok-check_rows.ensures refl in omega arith
+pub overflow_cast-rows : goal.overflow_cast-rows
+overflow_cast-rows c = let f = few_rows _ c.in_ok-check_rows.ensures refl in omega arith
 
-pub rows_of-requires : goal.rows_of-requires
-rows_of-requires c = (refl, few_rows _ c.in_ok-check_rows.ensures refl)
+pub invariant_of-rows : goal.invariant_of-rows
+invariant_of-rows c = record { passes = record { right = is_right _ c.in_ok-check_rows.ensures refl; rows = refl; few = few_rows _ c.in_ok-check_rows.ensures refl } }
 
-pub returns-then-inputs-rows_of : goal.returns-then-inputs-rows_of
-returns-then-inputs-rows_of c = record { answer = refused_by_inputs _ c.in_ok-check_rows.ensures _ _ _ refl refl c.rows_of.ensures c.if-inputs-rows_of.true }
+pub returns-then-inputs-count : goal.returns-then-inputs-count
+returns-then-inputs-count c = record { answer = refused_by_inputs _ c.in_ok-check_rows.ensures _ _ _ refl refl c.count.ensures c.if-inputs-count.true }
 
-pub rows_of-requires-2 : goal.rows_of-requires-2
-rows_of-requires-2 c = (refl, few_rows _ c.in_ok-check_rows.ensures refl)
-
-pub returns-then-results-rows_of : goal.returns-then-results-rows_of
-returns-then-results-rows_of c = record { answer = refused_by_room _ c.in_ok-check_rows.ensures _ _ _ refl refl c.rows_of.ensures c.if-inputs-rows_of.false c.rows_of-2.ensures c.if-results-rows_of.true }
+pub returns-then-results-count : goal.returns-then-results-count
+returns-then-results-count c = record { answer = refused_by_room _ c.in_ok-check_rows.ensures _ _ _ refl refl c.count.ensures c.if-inputs-count.false c.count-2.ensures c.if-results-count.true }
 
 pub read_rows-requires : goal.read_rows-requires
-read_rows-requires c = let j = c.rows_of-2.ensures in let h = c.if-results-rows_of.false in (is_right _ c.in_ok-check_rows.ensures refl, refl, c.if-inputs-rows_of.false ∙ c.rows_of.ensures, omega arith)
+read_rows-requires c = let j = c.count-2.ensures in let h = c.if-results-count.false in (c.if-inputs-count.false ∙ c.count.ensures, omega arith)
 
 pub returns : goal.returns
-returns c = record { answer = read_answer_lem _ c.in_ok-check_rows.ensures _ _ _ refl refl c.rows_of.ensures c.if-inputs-rows_of.false c.rows_of-2.ensures c.if-results-rows_of.false c.read_rows.ensures }
+returns c = record { answer = read_answer_lem _ c.in_ok-check_rows.ensures _ _ _ refl refl c.count.ensures c.if-inputs-count.false c.count-2.ensures c.if-results-count.false c.read_rows.ensures }

@@ -1,5 +1,5 @@
 use native.Mathlib.Omega.{arith}
-use Rattle.turning.proofs.Rows.{word_is_set}
+use Rattle.turning.proofs.Naming.{word_is_set}
 use Rattle.turning.proofs.set_row.Goals as goal
 
 pub returns : goal.returns

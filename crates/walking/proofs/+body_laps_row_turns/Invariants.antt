@@ -6,26 +6,26 @@ use Rattle.walking.specs.Walks.{Moves, Walk}
 use Rattle.walking.proofs.+body_laps_row_turns.Given as goal
 
 abbrev pub decreases-body : goal.decreases-body
-decreases-body l = 4 * (8 - length (loops_at l.rows.table.now l.from)) + 1
+decreases-body l = 4 * (8 - length (loops_at l.loops.now.rows.table.now l.from)) + 1
 
 abbrev pub decreases-laps : goal.decreases-laps
-decreases-laps l = 4 * (8 - suc (length (loops_at l.rows.table.now l.l))) + 3
+decreases-laps l = 4 * (8 - suc (length (loops_at l.loops.now.rows.table.now l.l))) + 3
 
 abbrev pub decreases-row : goal.decreases-row
-decreases-row l = 4 * (8 - length (loops_at l.rows.table.now l.i))
+decreases-row l = 4 * (8 - length (loops_at l.loops.now.rows.table.now l.i))
 
 abbrev pub decreases-turns : goal.decreases-turns
-decreases-turns l = 4 * (8 - suc (length (loops_at l.rows.table.now l.l))) + 2
+decreases-turns l = 4 * (8 - suc (length (loops_at l.loops.now.rows.table.now l.l.now.row))) + 2
 
 abbrev pub invariant-body-loop-i : goal.invariant-body-loop-i
-invariant-body-loop-i l = Walk l.rows.table.now l.from l.initial.words l.allow l.i l.left l.words
+invariant-body-loop-i l = Walk l.loops.rows.table.now l.from l.initial.words l.allow l.i l.left l.words
 
 abbrev pub decreases-body-loop-i : goal.decreases-body-loop-i
-decreases-body-loop-i l = l.rows.size - l.i
+decreases-body-loop-i l = l.loops.rows.size - l.i
 
 abbrev pub invariant-turns-loop-end : goal.invariant-turns-loop-end
 invariant-turns-loop-end l =
-    Moves l.rows.table.now l.first l.initial.words l.allow l.first l.left l.words × (l.left ≤ l.allow)
+    Moves l.loops.rows.table.now l.l.first l.initial.words l.allow l.l.first l.left l.words × (l.left ≤ l.allow)
 
 abbrev pub decreases-turns-loop-end : goal.decreases-turns-loop-end
 decreases-turns-loop-end l = l.left

@@ -1,9 +1,5 @@
-use Rattle.turning.proofs.Rows.{row_asked, for_names}
-use native.Mathlib.Omega.{arith}
+use Rattle.turning.proofs.Naming.{row_in, for_names}
 use Rattle.walking.proofs.holds.Goals as goal
 
-pub word_at-requires : goal.word_at-requires
-word_at-requires c = let q = row_asked _ c.requires.0 _ c.requires.1 in (q.0, q.1, omega arith)
-
 pub named-requires : goal.named-requires
-named-requires c = (c.requires.0, (for_names _ c.requires.0 _ c.requires.1 c.requires.2).1.1)
+named-requires c = let P = c.args.rows.now.passes in (for_names _ P.right _ (row_in P c.requires.0) c.requires.1).1.1
