@@ -1,11 +1,11 @@
 -- Rows that name rows, and single words set. Assumes nothing.
-use Prim.Native.Nat.{ℕ, zero, suc, ◌+◌, ◌≤◌, ◌<◌}
+use Prim.Native.Nat.{ℕ, ◌+◌, ◌≤◌, ◌<◌}
 use mathlib.Core.Bool.{cond, true, false}
 use denote.Enum.Bare.{sameb}
 use borrow.Author.Rules.{rules}
 use mathlib.Core.List.{List}
 use mathlib.Core.Logic.{◌≢◌}
-use mathlib.Core.Path.{◌≡◌, refl, sym, ap, ◌∙◌, subst}
+use mathlib.Core.Path.{◌≡◌, sym, ap, ◌∙◌, subst}
 use native.Mathlib.Omega.{arith}
 use native.Mathlib.Decide.{ℕ_discrete}
 use borrow.Author.Tests.{ne_eqb, eq-eqb}
@@ -18,7 +18,7 @@ use Rattle.table.specs.contracts.Kind.{the_type}
 use Rattle.table.specs.declared.Kind.{Kind}
 use Rattle.table.specs.Right.{TableRight}
 use Rattle.structure.specs.Structure.{Structure, right_table_has_structure}
-use Rattle.reading.specs.Reading.{set_row, choose}
+use Rattle.reading.specs.Reading.{set_row}
 use Rattle.turning.specs.Words.{Passes, env_of, Names}
 
 module _ (t : List ℕ) (ok : TableRight t) where
@@ -91,12 +91,3 @@ named_asked t ok r k n = let f = (right_table_has_structure t ok).few in let l =
 
 pub named_inside : (t : List ℕ) → TableRight t → (r k w len : ℕ) → Names t r k → w ≡ word t r k → len ≡ 512 → w < len
 named_inside t ok r k w len n e h = let f = (right_table_has_structure t ok).few in let l = n.named in omega arith
-
--- a flag that is not 0 chooses the first
-pub chosen_first : (f x y : ℕ) → f ≢ 0 → x ≡ choose f x y
-chosen_first zero x y n = absurd (n refl)
-chosen_first (suc f) x y n = refl
-
--- a word computed and set
-pub set_so : (e e₁ : List ℕ) (r w v : ℕ) → env_of e₁ ≡ set_row r w (env_of e) → w ≡ v → env_of e₁ ≡ set_row r v (env_of e)
-set_so e e₁ r w v h q = h ∙ ap (λ (x : ℕ). set_row r x (env_of e)) q
