@@ -13,61 +13,60 @@ use lib.Seq.{get_or-set_same, get_or-set_other}
 use Rattle.table.specs.Rows.{kind_at}
 use Rattle.table.specs.Scan.{Loop, opened, one_arg, one_next, at_head, outward, after, stack_at, holds}
 use Rattle.table.specs.Check.{outside}
-use Rattle.table.specs.Kept.{loop_of, unopened, open_loops, Counted}
-use Rattle.table.specs.declared.loops.OpenLoop.{OpenLoop}
+use Rattle.table.specs.Kept.{loop_of, open_loops, Counted}
 
-module _ (a : List OpenLoop) (d : ℕ) where
+module _ (a : List (List ℕ)) (d : ℕ) where
   pub open_none : d ≡ 0 → open_loops a d ≡ []
   unfolding open_loops
   open_none e = rw e
 
-  pub open_some : (d ≡ 0 → ⊥) → open_loops a d ≡ loop_of (get_or a (d - 1) unopened) ∷ open_loops a (d - 1)
+  pub open_some : (d ≡ 0 → ⊥) → open_loops a d ≡ loop_of (get_or a (d - 1) []) ∷ open_loops a (d - 1)
   unfolding open_loops
   open_some n = let e : d ≡ suc (d - 1) = omega arith in ap (open_loops a) e
 
-pub open_outward : (a : List OpenLoop) (d : ℕ) → outward (open_loops a d) ≡ open_loops a (d - 1)
+pub open_outward : (a : List (List ℕ)) (d : ℕ) → outward (open_loops a d) ≡ open_loops a (d - 1)
 unfolding open_loops
 open_outward a zero = refl
 open_outward a (suc d) = let e : suc d - 1 ≡ d = omega arith in rw e
 
-pub open_length : (a : List OpenLoop) (d : ℕ) → length (open_loops a d) ≡ d
+pub open_length : (a : List (List ℕ)) (d : ℕ) → length (open_loops a d) ≡ d
 unfolding open_loops
 open_length a zero = refl
 open_length a (suc d) = ap suc (open_length a d)
 
-pub open_outside : (a : List OpenLoop) (d : ℕ) → outside (open_loops a d) ≡ eqb d 0
+pub open_outside : (a : List (List ℕ)) (d : ℕ) → outside (open_loops a d) ≡ eqb d 0
 unfolding open_loops
 open_outside a zero = refl
 open_outside a (suc d) = sym (ne_eqb (suc d) 0 (λ e. omega arith))
 
 -- a store at or past the depth changes nothing
-pub open_store : (a : List OpenLoop) (d i : ℕ) (e : OpenLoop) → d ≤ i → open_loops (set a i e) d ≡ open_loops a d
+pub open_store : (a : List (List ℕ)) (d i : ℕ) (e : List ℕ) → d ≤ i → open_loops (set a i e) d ≡ open_loops a d
 unfolding open_loops
 open_store a zero i e h = refl
-open_store a (suc d) i e h = rw (get_or-set_other a i d e unopened (λ q. omega arith), open_store a d i e (omega arith))
+open_store a (suc d) i e h = rw (get_or-set_other a i d e [] (λ q. omega arith), open_store a d i e (omega arith))
 
 -- a store into the innermost entry
-pub open_top : (a : List OpenLoop) (d : ℕ) (e : OpenLoop) → d < length a → open_loops (set a d e) (d + 1) ≡ loop_of e ∷ open_loops a d
+pub open_top : (a : List (List ℕ)) (d : ℕ) (e : List ℕ) → d < length a → open_loops (set a d e) (d + 1) ≡ loop_of e ∷ open_loops a d
 unfolding open_loops
-open_top a d e h = let q : d + 1 ≡ suc d = omega arith in rw (q, get_or-set_same a d e unopened h, open_store a d d e (omega arith))
+open_top a d e h = let q : d + 1 ≡ suc d = omega arith in rw (q, get_or-set_same a d e [] h, open_store a d d e (omega arith))
 
 -- ---- whether a loop is among them
 
-pub holds_here : (a : List OpenLoop) (b k d : ℕ) → k < d → (get_or a k unopened).row ≡ b → holds b (open_loops a d) ≡ true
+pub holds_here : (a : List (List ℕ)) (b k d : ℕ) → k < d → (get_or (get_or a k []) 0 0) ≡ b → holds b (open_loops a d) ≡ true
 unfolding open_loops
 holds_here a b k zero l e = absurd (omega arith)
 holds_here a b k (suc d) l e = elim (ℕ_discrete k d) [
-  | yes q ↦ rw (← q, eq-eqb (get_or a k unopened).row b e)
-  | no n ↦ rw (holds_here a b k d (omega arith) e) (go (eqb (get_or a d unopened).row b))
+  | yes q ↦ rw (← q, eq-eqb (get_or (get_or a k []) 0 0) b e)
+  | no n ↦ rw (holds_here a b k d (omega arith) e) (go (eqb (get_or (get_or a d []) 0 0) b))
 ]
   where
     go : (x : Bool) → cond x true true ≡ true
     go true = refl
     go false = refl
 
-pub holds_more : (a : List OpenLoop) (b k : ℕ) → ((get_or a k unopened).row ≡ b → ⊥) → holds b (open_loops a k) ≡ false → holds b (open_loops a (k + 1)) ≡ false
+pub holds_more : (a : List (List ℕ)) (b k : ℕ) → ((get_or (get_or a k []) 0 0) ≡ b → ⊥) → holds b (open_loops a k) ≡ false → holds b (open_loops a (k + 1)) ≡ false
 unfolding open_loops
-holds_more a b k n h = let q : k + 1 ≡ suc k = omega arith in rw (q, ne_eqb (get_or a k unopened).row b n) h
+holds_more a b k n h = let q : k + 1 ≡ suc k = omega arith in rw (q, ne_eqb (get_or (get_or a k []) 0 0) b n) h
 
 -- ---- no loop has more ARGs or NEXTs than there are rows
 

@@ -1,4 +1,4 @@
--- How the check keeps the scan: eight entries and a depth for the open loops, and for each row its home and its body.
+-- How the check keeps the scan: eight entries of three numbers and a depth for the open loops, and for each row its home and its body.
 -- Main names: `open_loops`, `loops_of`, `Noted`, `Checks`.
 -- Assumes nothing.
 use Rattle.std.specs.Prelude.{ℕ, zero, suc, ◌*◌, ◌<◌, ◌≤◌, ◌≡◌, List, [], ◌∷◌, get_or, length, Result, MatchResult}
@@ -19,16 +19,16 @@ use Rattle.table.specs.declared.Notes.{Notes}
 abbrev pub entry_of : ℕ → ℕ → ℕ → Loop
 entry_of r m k = record { row = r; args = m; nexts = k }
 
-abbrev pub loop_of : OpenLoop → Loop
-loop_of e = entry_of e.row e.args e.nexts
+abbrev pub loop_of : List ℕ → Loop
+loop_of e = entry_of (get_or e 0 0) (get_or e 1 0) (get_or e 2 0)
 
-abbrev pub unopened : OpenLoop
-unopened = record { row = 0; args = 0; nexts = 0 }
+abbrev pub as_loop : OpenLoop → Loop
+as_loop e = entry_of e.row e.args e.nexts
 
 -- the entries below d, the last one innermost
-unfoldable pub open_loops : List OpenLoop → ℕ → List Loop
+unfoldable pub open_loops : List (List ℕ) → ℕ → List Loop
 open_loops a zero = []
-open_loops a (suc d) = loop_of (get_or a d unopened) ∷ open_loops a d
+open_loops a (suc d) = loop_of (get_or a d []) ∷ open_loops a d
 
 abbrev pub loops_of : OpenLoops → List Loop
 loops_of s = open_loops s.entries s.depth

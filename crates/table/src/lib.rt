@@ -13,7 +13,7 @@ ghost use Rattle.table.specs.Bodies.{nexts_in, operand};
 ghost use Rattle.table.specs.Check.{kind_before, depth_right, answer, rows_from, table_refusal};
 ghost use Rattle.table.specs.Clauses.{spare_word, code_word, follows_fault, args_in, stands_fault, place_fault, sight, hidden_word, mistyped_word, hidden_body, name_detail, explained, Told};
 ghost use Rattle.table.specs.Telling.{FirstWord, sort_number, placed, seen, hidden_by, broken_number, broken_detail, Answers, told_number, told_row, told_detail, told_fault, told_word, told_body, told_args, told_nexts};
-ghost use Rattle.table.specs.Kept.{loop_of, loops_of, Counted, Noted, Checks};
+ghost use Rattle.table.specs.Kept.{loops_of, Counted, Noted, Checks};
 
 mod loops;
 

@@ -1,4 +1,4 @@
-// The open loops before a row, as the check keeps them: eight entries, of which so many are in use.
+// The open loops before a row, as the check keeps them: eight entries of three numbers, of which so many are in use.
 ghost use Rattle.std.specs.Prelude.{◌≤◌};
 
 use crate::Kind;
@@ -17,7 +17,7 @@ pub struct OpenLoop {
 // The open loops, the innermost last.
 #[derive(Clone, Copy)]
 pub struct OpenLoops {
-    pub entries: [OpenLoop; MOST_LOOPS],
+    pub entries: [[u32; 3]; MOST_LOOPS],
     pub depth: usize,
     ghost deep: { depth ≤ 8 },
 }
@@ -27,18 +27,13 @@ impl OpenLoops {
     ghost use Rattle.table.specs.declared.Kind.TheVariants.{For};
     ghost use Rattle.table.specs.Kinds.{kind_number};
     ghost use Rattle.table.specs.Scan.{after, outward, holds};
-    ghost use Rattle.table.specs.Kept.{loop_of, loops_of, Counted};
+    ghost use Rattle.table.specs.Kept.{as_loop, loops_of, Counted};
 
     pub fn none() -> OpenLoops
         ensures { result.depth ≡ 0 }
     {
-        let unopened = OpenLoop {
-            row: 0,
-            args: 0,
-            nexts: 0,
-        };
         OpenLoops {
-            entries: [unopened; MOST_LOOPS],
+            entries: [[0; 3]; MOST_LOOPS],
             depth: 0,
         }
     }
@@ -50,12 +45,17 @@ impl OpenLoops {
     }
 
     pub fn innermost(self) -> Option<OpenLoop>
-        ensures { MatchOption result (loops_of self ≡ []) (λ last. (loops_of self ≡ loop_of last ∷ outward (loops_of self)) × (1 ≤ self.depth)) }
+        ensures { MatchOption result (loops_of self ≡ []) (λ last. (loops_of self ≡ as_loop last ∷ outward (loops_of self)) × (1 ≤ self.depth)) }
     {
         if self.depth == 0 {
             return None;
         }
-        Some(self.entries[self.depth - 1])
+        let last = self.entries[self.depth - 1];
+        Some(OpenLoop {
+            row: last[0],
+            args: last[1],
+            nexts: last[2],
+        })
     }
 
     // Those around the innermost one.
@@ -72,10 +72,10 @@ impl OpenLoops {
     // One loop more.
     pub fn inward(self, last: OpenLoop) -> OpenLoops
         requires { self.depth < 8 }
-        ensures { loops_of result ≡ loop_of last ∷ loops_of self }
+        ensures { loops_of result ≡ as_loop last ∷ loops_of self }
     {
         let mut entries = self.entries;
-        entries[self.depth] = last;
+        entries[self.depth] = [last.row, last.args, last.nexts];
         OpenLoops {
             entries,
             depth: self.depth + 1,
@@ -86,7 +86,7 @@ impl OpenLoops {
         ensures { result ≡ holds row (loops_of self) }
     {
         for k in 0..self.depth {
-            if self.entries[k].row == row {
+            if self.entries[k][0] == row {
                 return true;
             }
         }

@@ -4,4 +4,4 @@ use Rattle.table.proofs.Opened.{open_top}
 use Rattle.table.proofs.loops.OpenLoops.inward.Goals as goal
 
 pub returns : goal.returns
-returns c = let s = c.args.self in open_top s.entries s.depth c.args.last (omega arith)
+returns c = let s = c.args.self in open_top s.entries s.depth _ (omega arith)
