@@ -240,23 +240,38 @@ impl<'a> Asked<'a> {
     }
 }
 
-// Every argument behind the command's name.
+// Every argument behind the command's name. What is wrong first is told of its argument, or of the last option behind it that waits for another one.
 pub fn read<'a>(line: &'a [u8], inputs: &mut Inputs) -> Result<Asked<'a>, Wrong<'a>> {
     let mut asked = Asked::new();
     let mut table = None;
     let mut option = argument(line, 0);
     let mut awaited = None;
+    let mut wrong: Option<Wrong<'a>> = None;
     let last = text::marks(line, 0);
     for argument in line.split(|letter| *letter == 0).take(last).skip(1) {
         if let Some(value) = awaited {
-            asked.value(value, argument)?;
-            awaited = None;
+            match asked.value(value, argument) {
+                Ok(()) => awaited = None,
+                Err(found) => wrong = wrong.or(Some(found)),
+            }
         } else if table.is_none() && !is_option(argument) {
             table = Some(argument);
         } else {
-            awaited = asked.plain(argument, inputs)?;
-            option = argument;
+            match asked.plain(argument, inputs) {
+                Ok(None) => {}
+                Ok(waits) => {
+                    awaited = waits;
+                    option = argument;
+                    if let Some(found) = wrong {
+                        wrong = Some(Wrong { argument, ..found });
+                    }
+                }
+                Err(found) => wrong = wrong.or(Some(found)),
+            }
         }
+    }
+    if let Some(wrong) = wrong {
+        return Err(wrong);
     }
     if awaited.is_some() {
         return Err(Wrong {

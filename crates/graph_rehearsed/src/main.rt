@@ -33,8 +33,8 @@ fn rehearse<R: Channels>(
     let _ = how.console.answer(page.as_slice());
 }
 
-// The words of a part of the text, as far as they can be read.
-fn words_of(text: &[u8], k: usize) -> ArrayVec<u32, 4096> {
+// The words of a part of the text, as far as they can be read and there is room for them.
+fn words_of<const N: usize>(text: &[u8], k: usize) -> ArrayVec<u32, N> {
     let mut words = ArrayVec::new();
     let _ = text::read_words(text::part(text, k), &mut words);
     words
@@ -44,11 +44,11 @@ fn words_of(text: &[u8], k: usize) -> ArrayVec<u32, 4096> {
 fn rehearse_text<R: Channels>(console: &Console<'_, R>, text: &[u8], k: usize, signed: bool)
     requires { k ≤ 5 }
 {
-    let graph = words_of(text, k);
-    let inputs = words_of(text, k + 1);
-    let mut state = words_of(text, k + 2);
-    let nodes = words_of(text, k + 3);
-    let wires = words_of(text, k + 4);
+    let graph = words_of::<4096>(text, k);
+    let inputs = words_of::<512>(text, k + 1);
+    let mut state = words_of::<4096>(text, k + 2);
+    let nodes = words_of::<4096>(text, k + 3);
+    let wires = words_of::<4096>(text, k + 4);
     let names = Names {
         nodes: nodes.as_slice(),
         wires: wires.as_slice(),
