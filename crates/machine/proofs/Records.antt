@@ -4,9 +4,13 @@ use Prim.Native.Nat.{ℕ, ◌+◌, ◌*◌, ◌<◌}
 use mathlib.Core.Path.{◌≡◌, refl, sym, ap, ap₂, ◌∙◌}
 use mathlib.Core.List.{List}
 use mathlib.Core.Option.{Option, none, some}
-use mathlib.Core.Bool.{Bool}
+use mathlib.Core.Bool.{Bool, true, false, not, ◌&&◌}
+use borrow.Author.Tests.{lt-ltb}
+use lib.Dec.{eqb}
+use Rattle.word.specs.Words.{word_limit}
 use lib.ListN.{get_or}
 use Rattle.step.specs.Kinds.{Kind, kind_of}
+use Rattle.step.specs.Kept.{fits, legal_stream}
 use Rattle.step.specs.declared.Record.{Record}
 use Rattle.graph.specs.Graph.{Node, node_of, node_count, wire_count, row_place, sort_at}
 use Rattle.state.specs.State.{record_at}
@@ -14,6 +18,17 @@ use Rattle.state.specs.Legal.{legal_token, legal_kind, legal_for, legal_wire, le
 use Rattle.firing.specs.Acted.{Reads}
 use Rattle.firing.specs.declared.Row.{Row}
 use Rattle.firing.proofs.Fired.{node_read}
+
+-- words of a state are below 2^32, so of a STREAM in phase 1 only its step has to be looked at
+pub stream_held_lem : (a b c : ℕ) → a < word_limit → b < word_limit → c < word_limit → not (eqb b 0) ≡ legal_stream 1 a b c
+stream_held_lem a b c ha hb hc =
+    kept (not (eqb b 0)) ∙ sym (ap (λ (x : Bool). x && ((not (eqb b 0) && fits 0 b) && fits 0 c)) (lt-ltb a word_limit ha)
+    ∙ ap (λ (x : Bool). (not (eqb b 0) && x) && fits 0 c) (lt-ltb b word_limit hb)
+    ∙ ap (λ (x : Bool). (not (eqb b 0) && true) && x) (lt-ltb c word_limit hc))
+  where
+    kept : (t : Bool) → t ≡ (t && true) && true
+    kept true = refl
+    kept false = refl
 
 -- ---- a wire and a node of a state
 

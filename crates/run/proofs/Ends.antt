@@ -7,7 +7,7 @@ use mathlib.Core.List.{List}
 use mathlib.Core.Option.{Option, none, some}
 use native.Mathlib.Omega.{arith}
 use borrow.Author.Tests.{eq-eqb, ne_eqb, lt-ltb, le-ltb, ltb-true}
-use lib.Dec.{ltb}
+use lib.Dec.{eqb, ltb}
 use lib.ListN.{get_or, length, replicate, length-replicate, get_or-replicate}
 use Rattle.word.specs.Words.{pick}
 use Rattle.step.specs.Kinds.{Kind, kind_of, STREAM}
@@ -19,6 +19,7 @@ use denote.Enum.Declared.{tag_of}
 use Rattle.step.specs.Shown.{token_of, given}
 use Rattle.step.specs.declared.Seen.{Seen}
 use Rattle.std.specs.Prelude.{Option as Maybe, None, Some, is_some, Result, Ok, Err}
+use Rattle.std.specs.Option.{unwrap_or}
 use Rattle.refusal.specs.Numbers.{number_of, answer_number}
 use Rattle.refusal.specs.declared.Refusal.{Refusal}
 use Rattle.refusal.specs.declared.Refusal.TheVariants.{Order}
@@ -94,6 +95,11 @@ module _ (g s : List ℕ) (i : ℕ) {W : ℕ} (e : W ≡ wire_count g) where
 pub holds_token_lem : (t : Maybe ℕ) → holds_token (token_of t) ≡ is_some t
 holds_token_lem None = refl
 holds_token_lem (Some x) = refl
+
+-- whatever word stands for one that is not there
+pub holds_zero_lem : (t : Maybe ℕ) (x : ℕ) → holds_zero (token_of t) ≡ is_some t && eqb (unwrap_or t x) 0
+holds_zero_lem None x = refl
+holds_zero_lem (Some w) x = refl
 
 -- only the first kind is a STREAM, and what is no kind is none
 pub not_stream : {o : Option Kind} (κ : Code) → (tag_of the_type κ ≡ 0 → ⊥) → some (named κ) ≡ o → (c s w0 w1 w2 f : ℕ) → is_stream (node_of o c s w0 w1 w2 f) ≡ false

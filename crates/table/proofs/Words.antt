@@ -4,7 +4,7 @@ use Prim.Native.Nat.{ℕ, suc, ◌+◌, ◌-◌, ◌<◌, ◌≤◌}
 use mathlib.Core.Bool.{Bool, true, false}
 use mathlib.Core.Path.{◌≡◌, refl, ap}
 use native.Mathlib.Omega.{arith}
-use Rattle.table.specs.Rows.{Field, summed, fields_of, sort_named}
+use Rattle.table.specs.Rows.{Field, summed, fields_of, in_use, sort_named}
 use Rattle.table.specs.Said.{field_of}
 use Rattle.table.specs.declared.Field.{Field as SaidField}
 use Rattle.table.specs.declared.Field.TheVariants.{Unused, Any, Word, Flag, Codes}
@@ -33,6 +33,14 @@ module _ (p : ℕ → Bool) (e k : ℕ) where
 -- the words of a kind, counted
 pub counted : (f : Field → ℕ) (kind : ℕ) {a b c d e : Field} {v w x y z : ℕ} → (record { a = a; b = b; c = c; d = d; e = e }) ≡ fields_of kind → v ≡ f a → w ≡ f b → x ≡ f c → y ≡ f d → z ≡ f e → v + w + x + y + z ≡ summed f (fields_of kind)
 counted f kind q p1 p2 p3 p4 p5 = rw (p1, p2, p3, p4, p5) (ap (summed f) q)
+
+-- what a row says of a word that it does not leave unused is in use
+pub in_use_lem : (u : SaidField) → (u ≡ Unused → ⊥) → in_use (field_of u) ≡ 1
+in_use_lem Unused n = absurd (n refl)
+in_use_lem Any n = refl
+in_use_lem Word n = refl
+in_use_lem Flag n = refl
+in_use_lem (Codes m) n = refl
 
 pub no_flag : (u : SaidField) → (u ≡ Flag → ⊥) → sort_named (field_of u) ≡ 0
 no_flag Unused n = refl
