@@ -5,7 +5,7 @@
 // Nothing is asked of the words: what is not there reads as 0, and so does a count past 8,192.
 #![tactic(auto)]
 
-ghost use Rattle.std.specs.Prelude.{◌<◌, ◌^◌, ◌≤◌};
+ghost use Rattle.std.specs.Prelude.{◌≡◌, ◌<◌, ◌^◌, ◌≤◌};
 
 use std::io::Write;
 use std::{fmt, io};
@@ -123,7 +123,9 @@ impl<'a> Graph<'a> {
         self.results_place() + self.results() as usize + 7 * i as usize
     }
 
-    pub fn node(self, i: u32) -> Node {
+    pub fn node(self, i: u32) -> Node
+        ensures { result.number ≡ i }
+    {
         let place = self.row_place(i);
         Node {
             number: i,

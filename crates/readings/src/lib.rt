@@ -1,6 +1,11 @@
 // A reading of a table without its graph, told; and the run of the table's graph held to it.
 #![tactic(auto)]
 
+ghost use Rattle.std.specs.Prelude.{◌≡◌, ◌≤◌, min};
+ghost use Rattle.table.specs.Rows.{size};
+ghost use Rattle.table.specs.Kinds.{kind_number};
+ghost use Rattle.table.specs.Counted.{rows_of};
+
 use drawn::{View, word_at};
 use engine::Plain;
 use refusal::{Refusal, Refused};
@@ -10,14 +15,20 @@ use table::Kind;
 use text::Word;
 use told::{Answer, Asks, Rule};
 
-// How many rows of a kind there are.
-fn rows_of(table: &[u32], kind: Kind) -> usize {
-    let kind = kind.number();
-    table
-        .chunks_exact(6)
-        .take(512)
-        .filter(|row| row.first() == Some(&kind))
-        .count()
+// How many of the first 512 rows are of a kind.
+fn rows_of(table: &[u32], kind: Kind) -> usize
+    ensures few { result ≤ 512 }
+    ensures rows { result ≡ rows_of (kind_number kind) table.now (min (size table.now) 512) }
+{
+    let number = kind.number();
+    let last = (table.len() / 6).min(512) as u32;
+    let mut count: usize = 0;
+    for r in 0..last {
+        if table::kind_at(table, r) == number {
+            count += 1;
+        }
+    }
+    count
 }
 
 // How a reading ended.

@@ -2,6 +2,7 @@
 #![tactic(auto)]
 
 ghost use Rattle.std.specs.Prelude.{◌≤◌};
+ghost use Rattle.rehearsal.specs.Rehearsed.{Rehearsed};
 
 use channels::Channels;
 use drawn::{Graph, View};
@@ -50,7 +51,9 @@ pub fn run_graph<R: Channels>(
     state: &mut [u32],
     order: &[u32],
     allowance: u64,
-) -> Result<Ran, Refusal> {
+) -> Result<Ran, Refusal>
+    ensures answer { Rehearsed graph.now inputs.now state.old order.now allowance result state.new }
+{
     machine::load(graph, inputs, state)?;
     traced::run_told(how, graph, state, order, allowance)
 }

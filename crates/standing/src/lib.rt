@@ -2,7 +2,7 @@
 // Nodes and wires have their rows and roles beside them, by the names of `roles`.
 #![tactic(auto)]
 
-ghost use Rattle.std.specs.Prelude.{◌≤◌};
+ghost use Rattle.std.specs.Prelude.{◌≤◌, ◌<◌, IfSome};
 
 use drawn::{Node, View, word_at};
 use std::io;
@@ -21,7 +21,9 @@ pub fn tokens(view: View<'_>) -> usize
 }
 
 // The node that reads a wire; where none does, it is a result.
-fn reader_of(view: View<'_>, wire: u32) -> Option<Node> {
+fn reader_of(view: View<'_>, wire: u32) -> Option<Node>
+    ensures { IfSome result (λ node. node.number < 8192) }
+{
     for i in 0..view.graph.nodes() {
         let node = view.graph.node(i);
         if node.inputs().contains(&wire) {

@@ -2,7 +2,12 @@
 // What is told is written to an `io::Write`, mostly to a page of fixed memory.
 #![tactic(auto)]
 
-ghost use Rattle.std.specs.Prelude.{◌≤◌, length};
+ghost use Rattle.std.specs.Prelude.{◌≡◌, ◌≤◌, ◌+◌, ◌-◌, length, min, take, IfOk};
+ghost use Rattle.std.specs.List.{replace_range};
+ghost use Rattle.std.specs.Io.{WritesAtMost};
+ghost use Rattle.std.specs.Io.Iter.{u64_saturate};
+ghost use Rattle.std.specs.Io.KnownBytes.{WriteAppends};
+ghost use Rattle.text.specs.Pages.{memory_of, place_of, written_on};
 
 use arrayvec::ArrayVec;
 use std::io::{Cursor, Write};
@@ -219,23 +224,39 @@ impl<'a> fmt::Display for Words<'a> {
 pub struct Page<'a>(Cursor<&'a mut [u8]>);
 
 impl<'a> Page<'a> {
-    pub fn new(memory: &'a mut [u8]) -> Self {
+    pub fn new(memory: &'a mut [u8]) -> Self
+        ensures memory { memory_of result ≡ memory.old }
+        ensures place { place_of result ≡ 0 }
+    {
         Page(Cursor::new(memory))
     }
 
     // What is written.
-    pub fn as_slice(&self) -> &[u8] {
+    pub fn as_slice(&self) -> &[u8]
+        ensures written { result.now ≡ written_on self.now }
+        ensures few { length result.now ≤ length (memory_of self.now) }
+    {
         let memory = self.0.get_ref();
         memory.get(..self.0.position() as usize).unwrap_or(memory)
     }
 
-    pub fn clear(&mut self) {
+    pub fn clear(&mut self)
+        ensures memory { memory_of self.new ≡ memory_of self.old }
+        ensures place { place_of self.new ≡ 0 }
+    {
         self.0.set_position(0);
     }
 }
 
 impl<'a> Write for Page<'a> {
-    fn write(&mut self, text: &[u8]) -> io::Result<usize> {
+    // As many letters as there is room for go behind those that are written.
+    fn write(&mut self, text: &[u8]) -> io::Result<usize>
+        ensures bound { WritesAtMost result text.now }
+        ensures bytes { WriteAppends None None result text.now }
+        ensures count { result ≡ Ok (min (length text.now) (length (memory_of self.old) - place_of self.old)) }
+        ensures place { IfOk result (λ n. place_of self.new ≡ u64_saturate (place_of self.old + n)) }
+        ensures memory { IfOk result (λ n. place_of self.old ≤ length (memory_of self.old) → memory_of self.new ≡ replace_range (memory_of self.old) (place_of self.old) (place_of self.old + n) (take n text.now)) }
+    {
         self.0.write(text)
     }
 
