@@ -8,13 +8,14 @@ ghost use Rattle.std.specs.Prelude.{◌≤◌, length};
 use arrayvec::ArrayVec;
 use channels::{Channels, Console};
 use engine::Plain;
+use itoa::{Buffer, Integer};
 use machine::Fired;
 use refusal::{Refusal, Refused};
 use run::Ran;
 use sheet_read::Unread;
-use std::fmt;
 use std::io::Write;
-use text::{Page, Problem, Words, part, read_number, read_words};
+use std::{fmt, io};
+use text::{Page, Problem, part, read_number, read_words};
 
 // What can be wrong with a line.
 #[derive(Clone, Copy, Debug, PartialEq, Eq)]
@@ -90,27 +91,29 @@ impl Call {
 
 type List = ArrayVec<u32, 65536>;
 
-const WORDS: [u32; 65536] = [7; 65536];
-
-const BYTES: [u8; 65536] = [7; 65536];
-
-fn lent<T>(memory: &mut [T], count: u64) -> Result<&mut [T], Mistake> {
-    memory.get_mut(..count as usize).ok_or(Mistake::Lent)
+fn lent<T: Copy>(memory: &mut [T], count: u64, seven: T) -> Result<&mut [T], Mistake> {
+    let lent = memory.get_mut(..count as usize).ok_or(Mistake::Lent)?;
+    for place in lent.iter_mut() {
+        *place = seven;
+    }
+    Ok(lent)
 }
 
 // Answers.
 
-// Bytes, each behind a space.
-#[derive(Clone, Copy, Debug)]
-struct Bytes<'a>(&'a [u8]);
-
-impl<'a> fmt::Display for Bytes<'a> {
-    fn fmt<W: fmt::Write>(&self, f: &mut fmt::Formatter<W>) -> fmt::Result {
-        for byte in self.0 {
-            write!(f, " {byte}")?;
+// Numbers, each behind a space. They are gathered, so that many are written at once.
+fn write_list<W: Write, I: Integer>(to: &mut W, numbers: &[I]) -> io::Result<()> {
+    let mut digits = Buffer::new();
+    let mut letters = ArrayVec::<u8, 656>::new();
+    for numbers in numbers.chunks(16) {
+        letters.clear();
+        for number in numbers {
+            let _ = letters.try_push(b' ');
+            let _ = letters.try_extend_from_slice(digits.format(*number).as_bytes());
         }
-        Ok(())
+        to.write_all(letters.as_slice())?;
     }
+    Ok(())
 }
 
 // 0, or a refusal's number.
@@ -143,13 +146,13 @@ fn lower<W: Write>(rest: &[u8], to: &mut W) -> Result<(), Mistake> {
     let count = read_number(part(rest, 0))?;
     let mut table = List::new();
     read_words(part(rest, 1), &mut table)?;
-    let mut memory = WORDS;
-    let graph = lent(&mut memory, count)?;
+    let mut memory = [0u32; 65536];
+    let graph = lent(&mut memory, count, 7)?;
     let lowered = lowering::lower(table.as_slice(), graph);
     let (number, row) = number_and_row(lowered);
     let written = lowered.unwrap_or(0);
-    let graph = Words(graph);
-    let _ = write!(to, "{number} {row} {written} ;{graph}");
+    let _ = write!(to, "{number} {row} {written} ;");
+    let _ = write_list(to, graph);
     Ok(())
 }
 
@@ -167,11 +170,11 @@ fn load<W: Write>(rest: &[u8], to: &mut W) -> Result<(), Mistake> {
     let mut inputs = List::new();
     read_words(part(rest, 1), &mut graph)?;
     read_words(part(rest, 2), &mut inputs)?;
-    let mut memory = WORDS;
-    let state = lent(&mut memory, count)?;
+    let mut memory = [0u32; 65536];
+    let state = lent(&mut memory, count, 7)?;
     let number = number_of(machine::load(graph.as_slice(), inputs.as_slice(), state));
-    let state = Words(state);
-    let _ = write!(to, "{number} ;{state}");
+    let _ = write!(to, "{number} ;");
+    let _ = write_list(to, state);
     Ok(())
 }
 
@@ -184,8 +187,8 @@ fn fire<W: Write>(rest: &[u8], to: &mut W) -> Result<(), Mistake> {
     let fired = machine::fire(graph.as_slice(), state.as_mut_slice(), node as usize);
     let number = number_of(fired);
     let done = if fired == Ok(Fired::Done) { 1 } else { 0 };
-    let state = Words(state.as_slice());
-    let _ = write!(to, "{number} {done} ;{state}");
+    let _ = write!(to, "{number} {done} ;");
+    let _ = write_list(to, state.as_slice());
     Ok(())
 }
 
@@ -218,8 +221,8 @@ fn run<W: Write>(rest: &[u8], to: &mut W) -> Result<(), Mistake> {
         Ok(ran) => told_run(ran),
         Err(_) => (0, 0, 0),
     };
-    let state = Words(state.as_slice());
-    let _ = write!(to, "{number} {answer} {firings} {node} ;{state}");
+    let _ = write!(to, "{number} {answer} {firings} {node} ;");
+    let _ = write_list(to, state.as_slice());
     Ok(())
 }
 
@@ -236,8 +239,8 @@ fn read_sheet<W: Write>(rest: &[u8], to: &mut W) -> Result<(), Mistake> {
     let count = read_number(part(rest, 0))?;
     let mut words = List::new();
     read_words(part(rest, 1), &mut words)?;
-    let mut memory = WORDS;
-    let rows = lent(&mut memory, count)?;
+    let mut memory = [0u32; 65536];
+    let rows = lent(&mut memory, count, 7)?;
     let mut sheet = ArrayVec::new();
     narrow(words.as_slice(), &mut sheet)?;
     let read = sheet_read::read_sheet(sheet.as_slice(), rows);
@@ -246,8 +249,8 @@ fn read_sheet<W: Write>(rest: &[u8], to: &mut W) -> Result<(), Mistake> {
         Err(Unread::Text(offset)) => (Refusal::Text.number(), offset as u64, 0),
         Err(Unread::Room(size)) => (Refusal::Room.number(), size as u64, 0),
     };
-    let rows = Words(rows);
-    let _ = write!(to, "{number} {place} {written} ;{rows}");
+    let _ = write!(to, "{number} {place} {written} ;");
+    let _ = write_list(to, rows);
     Ok(())
 }
 
@@ -255,13 +258,13 @@ fn write_sheet<W: Write>(rest: &[u8], to: &mut W) -> Result<(), Mistake> {
     let count = read_number(part(rest, 0))?;
     let mut table = List::new();
     read_words(part(rest, 1), &mut table)?;
-    let mut memory = BYTES;
-    let sheet = lent(&mut memory, count)?;
+    let mut memory = [0u8; 65536];
+    let sheet = lent(&mut memory, count, 7)?;
     let wrote = sheet_written::write_sheet(table.as_slice(), sheet);
     let (number, row) = number_and_row(wrote);
     let written = wrote.unwrap_or(0);
-    let sheet = Bytes(sheet);
-    let _ = write!(to, "{number} {row} {written} ;{sheet}");
+    let _ = write!(to, "{number} {row} {written} ;");
+    let _ = write_list(to, sheet);
     Ok(())
 }
 
@@ -290,8 +293,8 @@ fn told_plain(plain: Result<Plain, Refused>) -> (u32, u32, u64) {
 
 fn read_plain<W: Write>(rest: &[u8], to: &mut W) -> Result<(), Mistake> {
     let (allowance, count) = read_two(part(rest, 0))?;
-    let mut memory = WORDS;
-    let results = lent(&mut memory, count)?;
+    let mut memory = [0u32; 65536];
+    let results = lent(&mut memory, count, 7)?;
     let mut table = List::new();
     let mut inputs = List::new();
     read_words(part(rest, 1), &mut table)?;
@@ -299,8 +302,8 @@ fn read_plain<W: Write>(rest: &[u8], to: &mut W) -> Result<(), Mistake> {
     let plain = engine::read_plain(table.as_slice(), inputs.as_slice(), results, allowance);
     let (number, _) = number_and_row(plain);
     let (row, answer, turns) = told_plain(plain);
-    let results = Words(results);
-    let _ = write!(to, "{number} {row} {answer} {turns} ;{results}");
+    let _ = write!(to, "{number} {row} {answer} {turns} ;");
+    let _ = write_list(to, results);
     Ok(())
 }
 
@@ -368,11 +371,22 @@ impl<'a> Desk<'a> {
         self.long = false;
     }
 
-    fn take<R: Channels>(&mut self, console: &Console<'_, R>, letter: u8) {
-        if letter == b'\n' {
-            self.reply(console);
-        } else if self.line.write_all(&[letter]).is_err() {
+    // A part of a line.
+    fn take(&mut self, letters: &[u8]) {
+        if self.line.write_all(letters).is_err() {
             self.long = true;
+        }
+    }
+
+    // What was read: each line feed ends a line.
+    fn read<R: Channels>(&mut self, console: &Console<'_, R>, letters: &[u8]) {
+        let mut parts = letters.split(|letter| *letter == b'\n');
+        if let Some(first) = parts.next() {
+            self.take(first);
+        }
+        for part in parts {
+            self.reply(console);
+            self.take(part);
         }
     }
 }
@@ -393,9 +407,7 @@ pub fn serve<R: Channels>(console: &Console<'_, R>) {
         if count == 0 {
             break;
         }
-        for letter in &chunk[..count] {
-            desk.take(console, *letter);
-        }
+        desk.read(console, &chunk[..count]);
     }
     // A last line that has no end is a line too.
     if !desk.line.as_slice().is_empty() {

@@ -82,6 +82,23 @@ impl Command {
     }
 }
 
+// The memory of a command on a table: the letters of the file come first, and once they are not looked at any more, what is told is written there.
+#[derive(Drop)]
+struct Desk<'m> {
+    memory: &'m mut [u8],
+    letters: usize,
+}
+
+impl<'m> Desk<'m> {
+    fn text(&self) -> &[u8] {
+        self.memory.get(..self.letters).unwrap_or(&[])
+    }
+
+    fn page(&mut self) -> Page<'_> {
+        Page::new(self.memory)
+    }
+}
+
 // What a command is asked, if it takes that. To one that takes a table alone a second argument is no wrong input, but one too many.
 fn read_asked<'a>(
     command: Command,
@@ -188,42 +205,40 @@ impl<'a, R: Channels + Files> Job<'a, R> {
         Err(stop)
     }
 
-    fn refuse(
-        &self,
-        text: &[u8],
-        table: &[u32],
-        why: Refusal,
-        page: &mut Page<'_>,
-    ) -> Result<(), Stop> {
-        files::note_odd(self.console, self.asked.table, text, u64::MAX);
-        let _ = write_refused(page, self.asked.table, table, why);
-        self.complain(page, Stop::Refused)
+    fn refuse(&self, desk: &mut Desk<'_>, table: &[u32], why: Refusal) -> Result<(), Stop> {
+        files::note_odd(self.console, self.asked.table, desk.text(), u64::MAX);
+        let mut page = desk.page();
+        let _ = write_refused(&mut page, self.asked.table, table, why);
+        self.complain(&mut page, Stop::Refused)
     }
 
-    fn check(&self, text: &[u8], table: &[u32], page: &mut Page<'_>) -> Result<(), Stop> {
+    fn check(&self, desk: &mut Desk<'_>, table: &[u32]) -> Result<(), Stop> {
         match lowering::check_table(table) {
             Ok(()) => {
-                let _ = write_accepted(page, self.asked.table);
-                self.answer(page)
+                let mut page = desk.page();
+                let _ = write_accepted(&mut page, self.asked.table);
+                self.answer(&mut page)
             }
-            Err(refused) => self.refuse(text, table, refused.why, page),
+            Err(refused) => self.refuse(desk, table, refused.why),
         }
     }
 
     // Writes a table that has a sheet: the sheet, or its words.
-    fn write(&self, text: &[u8], table: &[u32], page: &mut Page<'_>) -> Result<(), Stop> {
+    fn write(&self, desk: &mut Desk<'_>, table: &[u32]) -> Result<(), Stop> {
         let mut sheet = [0u8; 65536];
         match sheet_written::write_sheet(table, &mut sheet) {
             Ok(_) if self.command == Command::Table => {
-                let _ = write_table(page, table);
-                self.answer(page)
+                let mut page = desk.page();
+                let _ = write_table(&mut page, table);
+                self.answer(&mut page)
             }
             Ok(written) => files::answer(self.console, &sheet[..written.min(65536)]),
             Err(refused) => {
-                files::note_odd(self.console, self.asked.table, text, u64::MAX);
+                files::note_odd(self.console, self.asked.table, desk.text(), u64::MAX);
                 let clause = sheet_clause(table, refused);
-                let _ = refused::write_refusal(page, self.asked.table, table, clause);
-                self.complain(page, Stop::Refused)
+                let mut page = desk.page();
+                let _ = refused::write_refusal(&mut page, self.asked.table, table, clause);
+                self.complain(&mut page, Stop::Refused)
             }
         }
     }
@@ -247,10 +262,9 @@ impl<'a, R: Channels + Files> Job<'a, R> {
     }
 
     // The order list: a file's, the nodes from the last to 0, or none.
-    fn read_order(&self, graph: &[u32], order: &mut Words) -> Result<(), Stop> {
+    fn read_order(&self, graph: &[u32], memory: &mut [u8], order: &mut Words) -> Result<(), Stop> {
         if let Some(path) = self.asked.order {
-            let mut text = [0u8; 1048576];
-            files::read_file(self.console, path, false, &mut text, order)?;
+            files::read_file(self.console, path, false, memory, order)?;
         } else if self.asked.reverse {
             let _ = order.extend((0..Graph(graph).nodes()).rev());
         }
@@ -306,10 +320,11 @@ impl<'a, R: Channels + Files> Job<'a, R> {
         table: &[u32],
         graph: &[u32],
         names: Names<'_>,
-        page: &mut Page<'_>,
+        desk: &mut Desk<'_>,
     ) -> Result<(), Stop> {
         let mut order = Words::new();
-        self.read_order(graph, &mut order)?;
+        self.read_order(graph, desk.memory, &mut order)?;
+        let mut page = desk.page();
         let mut memory = [0u32; 32768];
         let state = &mut memory[..rehearsal::state_words(Graph(graph))];
         let how = How {
@@ -326,11 +341,11 @@ impl<'a, R: Channels + Files> Job<'a, R> {
             order.as_slice(),
             self.asked.allowance,
         ) {
-            Ok(ran) => self.tell(table, self.view(graph, state, names), ran, page),
+            Ok(ran) => self.tell(table, self.view(graph, state, names), ran, &mut page),
             Err(why) => {
                 let given = self.inputs.len();
-                let _ = rehearsal::write_refused(page, why, Graph(graph), given);
-                self.complain(page, Stop::Refused)
+                let _ = rehearsal::write_refused(&mut page, why, Graph(graph), given);
+                self.complain(&mut page, Stop::Refused)
             }
         }
     }
@@ -340,21 +355,21 @@ impl<'a, R: Channels + Files> Job<'a, R> {
         table: &[u32],
         graph: &[u32],
         names: Names<'_>,
-        page: &mut Page<'_>,
+        desk: &mut Desk<'_>,
     ) -> Result<(), Stop> {
         let view = self.view(graph, &[], names);
         match self.command {
             Command::Lower => files::written(
                 self.console,
-                listed::write_list(self.console, view, page),
+                listed::write_list(self.console, view, &mut desk.page()),
             ),
-            Command::Draw if !self.asked.run => self.draw(view, page),
-            _ => self.run(table, graph, names, page),
+            Command::Draw if !self.asked.run => self.draw(view, &mut desk.page()),
+            _ => self.run(table, graph, names, desk),
         }
     }
 
     // The names of nodes and wires: three words for each of 4,096 and of 8,192. A table that was lowered has them.
-    fn on_graph(&self, table: &[u32], graph: &[u32], page: &mut Page<'_>) -> Result<(), Stop> {
+    fn on_graph(&self, table: &[u32], graph: &[u32], desk: &mut Desk<'_>) -> Result<(), Stop> {
         let mut nodes = [0u32; 12288];
         let mut wires = [0u32; 24576];
         let names = match naming::name_graph(table, &mut nodes, &mut wires) {
@@ -367,27 +382,27 @@ impl<'a, R: Channels + Files> Job<'a, R> {
                 wires: &[],
             },
         };
-        self.on_named(table, graph, names, page)
+        self.on_named(table, graph, names, desk)
     }
 
     // A graph has at most 4 + 2 * 512 + 512 + 7 * 4096 words.
-    fn lower(&self, text: &[u8], table: &[u32], page: &mut Page<'_>) -> Result<(), Stop> {
+    fn lower(&self, desk: &mut Desk<'_>, table: &[u32]) -> Result<(), Stop> {
         let mut memory = [0u32; 30212];
         match lowering::lower(table, &mut memory) {
             Ok(written) => match memory.get(..written) {
-                Some(graph) => self.on_graph(table, graph, page),
+                Some(graph) => self.on_graph(table, graph, desk),
                 None => {
                     files::complain(self.console, self.asked.table, "the graph is too long");
                     Err(Stop::Error)
                 }
             },
-            Err(refused) => self.refuse(text, table, refused.why, page),
+            Err(refused) => self.refuse(desk, table, refused.why),
         }
     }
 
     // Readings.
 
-    fn read(&self, text: &[u8], table: &[u32], page: &mut Page<'_>) -> Result<(), Stop> {
+    fn read(&self, desk: &mut Desk<'_>, table: &[u32]) -> Result<(), Stop> {
         let mut results = [0u32; 512];
         let plain = engine::read_plain(table, self.inputs, &mut results, self.asked.turns);
         let reading = Reading {
@@ -398,39 +413,44 @@ impl<'a, R: Channels + Files> Job<'a, R> {
             signed: self.asked.signed,
         };
         if let Some(why) = reading.rows_refusal() {
-            return self.refuse(text, table, why, page);
+            return self.refuse(desk, table, why);
         }
-        let _ = reading.write(page);
+        let mut page = desk.page();
+        let _ = reading.write(&mut page);
         if plain.is_err() {
-            return self.complain(page, Stop::Refused);
+            return self.complain(&mut page, Stop::Refused);
         }
-        self.answer(page)
+        self.answer(&mut page)
     }
 
     // Tables.
 
-    fn on_table(&self, text: &[u8], table: &[u32], page: &mut Page<'_>) -> Result<(), Stop> {
+    fn on_table(&self, desk: &mut Desk<'_>, table: &[u32]) -> Result<(), Stop> {
         match self.command {
-            Command::Check => self.check(text, table, page),
-            Command::Sheet | Command::Table => self.write(text, table, page),
-            Command::Read => self.read(text, table, page),
-            Command::Lower | Command::Run | Command::Draw => self.lower(text, table, page),
+            Command::Check => self.check(desk, table),
+            Command::Sheet | Command::Table => self.write(desk, table),
+            Command::Read => self.read(desk, table),
+            Command::Lower | Command::Run | Command::Draw => self.lower(desk, table),
         }
     }
 
-    // The memory that all commands on a table share: the file's letters and words, and the page that is written on.
+    // The memory that all commands on a table share, and the file's words.
     fn on_file(&self) -> Result<(), Stop> {
-        let mut letters = [0u8; 1048576];
-        let mut told = [0u8; 1048576];
+        let mut memory = [0u8; 1048576];
         let mut table = Words::new();
         let text = files::read_file(
             self.console,
             self.asked.table,
             true,
-            &mut letters,
+            &mut memory,
             &mut table,
         )?;
-        self.on_table(text, table.as_slice(), &mut Page::new(&mut told))
+        let letters = text.len();
+        let mut desk = Desk {
+            memory: &mut memory,
+            letters,
+        };
+        self.on_table(&mut desk, table.as_slice())
     }
 }
 

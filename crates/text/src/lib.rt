@@ -260,6 +260,14 @@ impl<'a> Write for Page<'a> {
         self.0.write(text)
     }
 
+    // What is told comes in many small parts: one write does for each, where the library's own loops.
+    fn write_all(&mut self, text: &[u8]) -> io::Result<()> {
+        if self.0.write(text)? < text.len() {
+            return Err(io::ErrorKind::WriteZero.into());
+        }
+        Ok(())
+    }
+
     fn flush(&mut self) -> io::Result<()> {
         Ok(())
     }

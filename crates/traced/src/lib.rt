@@ -3,7 +3,7 @@
 // The turns are those of the run's rule: the list, then sweeps until one has fired nothing, within the allowance.
 #![tactic(auto)]
 
-ghost use Rattle.std.specs.Prelude.{◌≡◌, ◌≤◌, ◌<◌, length};
+ghost use Rattle.std.specs.Prelude.{◌≡◌, ◌≤◌, ◌<◌, length, ⊤};
 ghost use Rattle.graph.specs.Graph.{node_count};
 ghost use Rattle.state.specs.Net.{net_of};
 ghost use Rattle.state.specs.Run.{turn, follow, sweep, finish};
@@ -14,6 +14,7 @@ use channels::{Channels, Console};
 use drawn::{Graph, Names, Node, State, View};
 use refusal::Refusal;
 use run::Ran;
+use std::alloc::AllocError;
 use std::io;
 use std::io::Write;
 use text::Page;
@@ -22,12 +23,24 @@ use text::Page;
 const MANY: u64 = 100000000;
 
 // What is told of a run: each firing as an answer, or the firings so far as a complaint; by which names, and whether words have a sign.
-#[derive(Drop)]
 pub struct How<'a, R> {
     pub console: &'a Console<'a, R>,
     pub names: Names<'a>,
     pub trace: bool,
     pub signed: bool,
+}
+
+// By hand, since a derive would ask that `R` is copied too.
+impl<'a, R> Copy for How<'a, R> {}
+
+impl<'a, R> Clone for How<'a, R> {
+    ghost is_clone = { λ x y. y ≡ x };
+
+    ghost is_infallible = { λ _. ⊤ };
+
+    fn clone(&self) -> Result<Self, AllocError> {
+        Ok(*self)
+    }
 }
 
 // A node's five wires: its three inputs, then its two outputs. A wire that is not there is past every state.

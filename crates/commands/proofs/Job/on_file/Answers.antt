@@ -1,4 +1,4 @@
--- `commands::Job::on_file` is safe and ends. The lengths of the text and the page come by the law: they are too long to compute. Assumes nothing.
+-- `commands::Job::on_file` is safe and ends. The length of the memory comes by the law: it is too long to compute. Assumes nothing.
 use Prim.Native.Nat.{ℕ}
 use mathlib.Core.Path.{sym}
 use lib.ListN.{length-replicate}
@@ -6,6 +6,3 @@ use Rattle.commands.proofs.Job.on_file.Goals as goal
 
 pub slice_bounds-read_file-end : goal.slice_bounds-read_file-end
 slice_bounds-read_file-end g c = sym (length-replicate {A = ℕ} 1048576 0)
-
-pub slice_bounds-new-end : goal.slice_bounds-new-end
-slice_bounds-new-end g c = sym (length-replicate {A = ℕ} 1048576 0)

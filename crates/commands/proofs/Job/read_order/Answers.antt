@@ -1,8 +1,0 @@
--- `commands::Job::read_order` is safe and ends. The length of the text comes by the law: it is too long to compute. Assumes nothing.
-use Prim.Native.Nat.{ℕ}
-use mathlib.Core.Path.{sym}
-use lib.ListN.{length-replicate}
-use Rattle.commands.proofs.Job.read_order.Goals as goal
-
-pub slice_bounds-read_file-end : goal.slice_bounds-read_file-end
-slice_bounds-read_file-end g c = sym (length-replicate {A = ℕ} 1048576 0)
