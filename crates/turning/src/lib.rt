@@ -229,8 +229,10 @@ impl<'a> Rows<'a> {
         requires { Source self.now.table.now from k }
         ensures { Aside self.now.table.now from k words.now aside.new }
     {
+        // A copy, so that the table's place is not read anew at each row.
+        let rows = *self;
         for j in 0..k {
-            aside[j as usize] = self.named(words, from + j, 1);
+            aside[j as usize] = rows.named(words, from + j, 1);
         }
     }
 

@@ -24,5 +24,5 @@ slice_bounds-new-end-2 g c = sym (length-replicate {A = ℕ} 1048576 0)
 pub slice_bounds-chunk-end : goal.slice_bounds-chunk-end
 slice_bounds-chunk-end g c = count_within c.receive.result c.unwrap_or-count.result c.receive.new.chunk c.receive.ensures c.unwrap_or-count.ensures
 
-pub slice_bounds-letter-items-end : goal.slice_bounds-letter-items-end
-slice_bounds-letter-items-end g c = sym (length-take-le c.unwrap_or-count.result c.receive.new.chunk (count_within c.receive.result c.unwrap_or-count.result c.receive.new.chunk c.receive.ensures c.unwrap_or-count.ensures))
+pub slice_bounds-read-end : goal.slice_bounds-read-end
+slice_bounds-read-end g c = sym (length-take-le c.unwrap_or-count.result c.receive.new.chunk (count_within c.receive.result c.unwrap_or-count.result c.receive.new.chunk c.receive.ensures c.unwrap_or-count.ensures))
