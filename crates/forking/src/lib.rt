@@ -79,22 +79,37 @@ fn added_nodes(uses: u32) -> u32
     }
 }
 
-// How often each wire is used, the first number that is free for its forks, and how many nodes and wires the forks and drains of all wires add.
+// How often each wire is used, and the first number that is free for its forks. It is lent and filled in place, since it has 64 KiB.
 #[derive(Clone, Copy)]
 pub struct Uses {
     pub count: [u32; 8192],
     pub free: [u32; 8192],
-    pub nodes: u32,
-    pub wires: u32,
     pub ghost few: { Below 40000 count },
     pub ghost low: { Below 700000000 free },
 }
 
-fn note_free(count: [u32; 8192], wires: u32) -> Uses
-    requires { (wires ≤ 8192) × Below 40000 count }
-    ensures { (result.count ≡ count) × Freed count wires result.free result.nodes result.wires }
+// How many nodes and wires the forks and drains of all wires add.
+#[derive(Clone, Copy)]
+pub struct Added {
+    pub nodes: u32,
+    pub wires: u32,
+}
+
+impl Uses {
+    pub fn none() -> Self
+        ensures { (result.count ≡ replicate 8192 0) × (result.free ≡ replicate 8192 0) }
+    {
+        Uses {
+            count: [0; 8192],
+            free: [0; 8192],
+        }
+    }
+}
+
+fn note_free(count: &[u32; 8192], wires: u32, free: &mut [u32; 8192]) -> Added
+    requires { (wires ≤ 8192) × Below 40000 count.now × Below 700000000 free.old }
+    ensures { Freed count.now wires free.new result.nodes result.wires }
 {
-    let mut free = [0; 8192];
     let mut nodes = 0;
     let mut added = 0;
     for w in 0..wires {
@@ -103,9 +118,7 @@ fn note_free(count: [u32; 8192], wires: u32) -> Uses
         added += added_wires(uses);
         nodes += added_nodes(uses);
     }
-    Uses {
-        count,
-        free,
+    Added {
         nodes,
         wires: added,
     }
@@ -312,19 +325,20 @@ pub fn note_sorts(rows: &[u32; 28672], nodes: usize, sorts: &mut [u32; 8192])
     }
 }
 
-// How often each wire is used, by inputs and then by results, and the free numbers that follow.
+// How often each wire is used, by inputs and then by results, and the free numbers that follow. What was counted before is cleared.
 pub fn count_uses(
     rows: &[u32; 28672],
     nodes: usize,
     outs: &[u32; 512],
     results: usize,
     wires: u32,
-) -> Uses
+    uses: &mut Uses,
+) -> Added
     requires { Scratch rows.now nodes outs.now results wires }
-    ensures { (result.count ≡ uses_of rows.now nodes outs.now results (replicate 8192 0)) × Freed result.count wires result.free result.nodes result.wires }
+    ensures { (uses.new.count ≡ uses_of rows.now nodes outs.now results (replicate 8192 0)) × Freed uses.new.count wires uses.new.free result.nodes result.wires }
 {
-    let mut count = [0; 8192];
-    tally_rows(rows, nodes, &mut count);
-    tally_outs(outs, results, &mut count);
-    note_free(count, wires)
+    uses.count = [0; 8192];
+    tally_rows(rows, nodes, &mut uses.count);
+    tally_outs(outs, results, &mut uses.count);
+    note_free(&uses.count, wires, &mut uses.free)
 }

@@ -11,6 +11,7 @@ ghost use Rattle.measuring.specs.Ready.{Counted, Ready};
 ghost use Rattle.lowering.specs.Answers.{LowerAnswer, written};
 
 use carrying::Passed;
+use forking::Uses;
 use measuring::Sizes;
 use refusal::Refused;
 
@@ -19,10 +20,11 @@ fn write_graph(
     passed: &Passed,
     rows: &[u32; 28672],
     outs: &[u32; 512],
+    uses: &Uses,
     sizes: &Sizes,
     graph: &mut [u32],
 )
-    requires { Ready passed.now.words.now rows.now outs.now sizes.now.uses.count sizes.now.uses.free × Counted passed.now.words.now sizes.now.plain sizes.now.sources sizes.now.nodes sizes.now.wires sizes.now.starts sizes.now.results × (length (lowered_words passed.now.words.now) ≤ length graph.old) }
+    requires { Ready passed.now.words.now rows.now outs.now uses.now.count uses.now.free × Counted passed.now.words.now sizes.now.plain sizes.now.sources sizes.now.nodes sizes.now.wires sizes.now.starts sizes.now.results × (length (lowered_words passed.now.words.now) ≤ length graph.old) }
     ensures { graph.new ≡ sets graph.old 0 (lowered_words passed.now.words.now) }
 {
     let starts = sizes.starts as usize;
@@ -40,14 +42,14 @@ fn write_graph(
     forking::write_starts(passed, sizes.starts, graph, 4);
     let mut seen = [0; 8192];
     forking::tally_rows(rows, plain, &mut seen);
-    forking::write_results(outs, results, &sizes.uses, &mut seen, graph, place);
+    forking::write_results(outs, results, uses, &mut seen, graph, place);
     let mut again = [0; 8192];
-    forking::write_rows(rows, plain, &sizes.uses, &mut again, graph, place + results);
+    forking::write_rows(rows, plain, uses, &mut again, graph, place + results);
     let mut sorts = [0; 8192];
     forking::note_sorts(rows, plain, &mut sorts);
     forking::write_forks(
         &sorts,
-        &sizes.uses,
+        uses,
         sizes.sources,
         graph,
         place + results + 7 * plain,
@@ -61,7 +63,8 @@ pub fn check_table(table: &[u32]) -> Result<(), Refused>
     let passed = Passed::check(table)?;
     let mut rows = [0; 28672];
     let mut outs = [0; 512];
-    measuring::measure(&passed, &mut rows, &mut outs)?;
+    let mut uses = Uses::none();
+    measuring::measure(&passed, &mut rows, &mut outs, &mut uses)?;
     Ok(())
 }
 
@@ -72,7 +75,8 @@ pub fn lower(table: &[u32], graph: &mut [u32]) -> Result<usize, Refused>
     let passed = Passed::check(table)?;
     let mut rows = [0; 28672];
     let mut outs = [0; 512];
-    let sizes = measuring::measure(&passed, &mut rows, &mut outs)?;
+    let mut uses = Uses::none();
+    let sizes = measuring::measure(&passed, &mut rows, &mut outs, &mut uses)?;
     let needed = 4
         + 2 * (sizes.starts as usize)
         + sizes.results as usize
@@ -80,6 +84,6 @@ pub fn lower(table: &[u32], graph: &mut [u32]) -> Result<usize, Refused>
     if graph.len() < needed {
         return Err(passed.crowded());
     }
-    write_graph(&passed, &rows, &outs, &sizes, graph);
+    write_graph(&passed, &rows, &outs, &uses, &sizes, graph);
     Ok(needed)
 }

@@ -16,8 +16,7 @@ const MOST_NODES: u32 = 4096;
 
 const MOST_WIRES: u32 = 8192;
 
-// The counts of a table's graph in its limits: `plain` nodes and `sources`, their wires, before forks; `nodes` and `wires` with them; the uses of
-// the sources.
+// The counts of a table's graph in its limits: `plain` nodes and `sources`, their wires, before forks; `nodes` and `wires` with them.
 #[derive(Clone, Copy)]
 pub struct Sizes {
     pub plain: u32,
@@ -26,7 +25,6 @@ pub struct Sizes {
     pub wires: u32,
     pub starts: u32,
     pub results: u32,
-    pub uses: Uses,
 }
 
 fn in_limits(nodes: u32, wires: u32) -> bool
@@ -35,28 +33,30 @@ fn in_limits(nodes: u32, wires: u32) -> bool
     nodes <= MOST_NODES && wires <= MOST_WIRES
 }
 
-// Lays a table's nodes down and counts everything; refusal 10 where a count is over its limit. A table over a limit before forks is over it with them.
+// Lays a table's nodes down and counts everything, the uses of the wires before forks too; refusal 10 where a count is over its limit. A table over a limit before forks is over it with them.
 pub fn measure(
     passed: &Passed,
     rows: &mut [u32; 28672],
     outs: &mut [u32; 512],
+    uses: &mut Uses,
 ) -> Result<Sizes, Refused>
     ensures answer { answer (refused_number result) (refused_row result) ≡ cond (room.in_limits passed.now.words.now) (answer 0 0) (answer 10 (size passed.now.words.now)) }
-    ensures ready { IfOk result (λ s. Ready passed.now.words.now rows.new outs.new s.uses.count s.uses.free × Counted passed.now.words.now s.plain s.sources s.nodes s.wires s.starts s.results) }
+    ensures ready { IfOk result (λ s. Ready passed.now.words.now rows.new outs.new uses.new.count uses.new.free × Counted passed.now.words.now s.plain s.sources s.nodes s.wires s.starts s.results) }
 {
     let laid = laying::lay(passed, rows, outs);
     if !in_limits(laid.nodes, laid.wires) {
         return Err(passed.crowded());
     }
-    let uses = forking::count_uses(
+    let added = forking::count_uses(
         rows,
         laid.nodes as usize,
         outs,
         laid.results as usize,
         laid.wires,
+        uses,
     );
-    let nodes = laid.nodes + uses.nodes;
-    let wires = laid.wires + uses.wires;
+    let nodes = laid.nodes + added.nodes;
+    let wires = laid.wires + added.wires;
     if !in_limits(nodes, wires) {
         return Err(passed.crowded());
     }
@@ -67,6 +67,5 @@ pub fn measure(
         wires,
         starts: laid.starts,
         results: laid.results,
-        uses,
     })
 }

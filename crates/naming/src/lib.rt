@@ -365,7 +365,8 @@ pub fn name_graph(table: &[u32], nodes: &mut [u32], wires: &mut [u32]) -> Result
     let passed = Passed::check(table)?;
     let mut rows = [0; 28672];
     let mut outs = [0; 512];
-    let sizes = measuring::measure(&passed, &mut rows, &mut outs)?;
+    let mut uses = Uses::none();
+    let sizes = measuring::measure(&passed, &mut rows, &mut outs, &mut uses)?;
     if nodes.len() < 3 * (sizes.nodes as usize) {
         return Err(passed.crowded());
     }
@@ -375,7 +376,7 @@ pub fn name_graph(table: &[u32], nodes: &mut [u32], wires: &mut [u32]) -> Result
     let notes = Notes::new(passed);
     write_names(
         &notes,
-        &sizes.uses,
+        &uses,
         sizes.plain as usize,
         sizes.sources as usize,
         nodes,

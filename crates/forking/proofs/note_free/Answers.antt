@@ -3,13 +3,13 @@
 use Rattle.std.proofs.Common.{ℕ, ◌+◌, ◌≡◌, refl, ap, arith}
 use Rattle.graph.specs.Below.{total, total_more}
 use Rattle.forking.specs.Forked.{nodes_by, wires_by, free_of, added_nodes_low}
-use Rattle.forking.specs.Tallied.{filled_more, none_tallied}
-use Rattle.forking.proofs.Tallies.{below_set, looser}
+use Rattle.forking.specs.Tallied.{filled_more}
+use Rattle.forking.proofs.Tallies.{below_set}
 use Rattle.forking.proofs.note_free.Goals as goal
 
 pub loop-w-init : goal.loop-w-init
 unfolding total
-loop-w-init c = (refl, refl, omega arith, omega arith, λ p h. absurd (omega arith), looser none_tallied (omega arith))
+loop-w-init c = (refl, refl, omega arith, omega arith, λ p h. absurd (omega arith), c.requires.2)
 
 pub added_wires-added-requires : goal.added_wires-added-requires
 added_wires-added-requires c = c.requires.1.low c.loop-w.w (omega arith)
@@ -24,7 +24,7 @@ pub overflow_add-nodes : goal.overflow_add-nodes
 overflow_add-nodes c = let u = added_nodes_low _ (c.requires.1.low c.loop-w.w (omega arith)) in omega (arith, c.added_nodes-nodes.ensures)
 
 pub loop-w-preserved : goal.loop-w-preserved
-loop-w-preserved c = let l = c.loop-w in let uses = c.args.count in let wires = c.args.wires in
+loop-w-preserved c = let l = c.loop-w in let uses = c.args.count.now in let wires = c.args.wires in
     let u = c.requires.1.low l.w (omega arith) in
     let n = added_nodes_low _ u in
     let tn = total_more (nodes_by uses) l.w in
@@ -34,9 +34,6 @@ loop-w-preserved c = let l = c.loop-w in let uses = c.args.count in let wires = 
     let long = l.invariant.5.long in
     (omega arith, omega arith, omega arith, omega arith, filled_more l.free l.w _ (free_of uses wires) (omega arith) l.invariant.4 (ap (λ (z : ℕ). wires + z) l.invariant.1), below_set l.w _ l.invariant.5 (omega arith))
 
-pub invariant_of-result : goal.invariant_of-result
-invariant_of-result c = record { few = c.requires.1; low = c.loop-w.invariant.5 }
-
 pub returns : goal.returns
 returns c = let l = c.loop-w in let last : l.w ≡ c.args.wires = omega arith in
-    (refl, record { free = λ w h. l.invariant.4 w (omega arith); small = l.invariant.5; nodes = rw (← last) l.invariant.0; wires = rw (← last) l.invariant.1; nodes_low = omega arith; wires_low = omega arith })
+    record { free = λ w h. l.invariant.4 w (omega arith); small = l.invariant.5; nodes = rw (← last) l.invariant.0; wires = rw (← last) l.invariant.1; nodes_low = omega arith; wires_low = omega arith }
