@@ -109,7 +109,9 @@ fn write_list<W: Write, I: Integer>(to: &mut W, numbers: &[I]) -> io::Result<()>
         letters.clear();
         for number in numbers {
             let _ = letters.try_push(b' ');
-            let _ = letters.try_extend_from_slice(digits.format(*number).as_bytes());
+            for digit in digits.format(*number).as_bytes() {
+                let _ = letters.try_push(*digit);
+            }
         }
         to.write_all(letters.as_slice())?;
     }
