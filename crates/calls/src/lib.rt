@@ -101,7 +101,7 @@ fn lent<T: Copy>(memory: &mut [T], count: u64, seven: T) -> Result<&mut [T], Mis
 
 // Answers.
 
-// Numbers, each behind a space. They are gathered, so that many are written at once.
+// Numbers, each behind a space. They are gathered, so that many are written at once: sixteen, of 40 digits at most.
 fn write_list<W: Write, I: Integer>(to: &mut W, numbers: &[I]) -> io::Result<()> {
     let mut digits = Buffer::new();
     let mut letters = ArrayVec::<u8, 656>::new();

@@ -82,7 +82,7 @@ impl Command {
     }
 }
 
-// The memory of a command on a table: the letters of the file come first, and once they are not looked at any more, what is told is written there.
+// The memory of a command on a table: the letters of the file come first; once they are not looked at any more, those of an order list, and then what is told.
 #[derive(Drop)]
 struct Desk<'m> {
     memory: &'m mut [u8],

@@ -1,4 +1,5 @@
--- `calls::serve` is safe and ends. The lengths of the two largest arrays come by the law: they are too long to compute. So no tactic reads what stands on the pages.
+-- `calls::serve` is safe and ends. The lengths of the two largest arrays come by the law: they are too long to compute, and so is what stands on
+-- the pages, which no tactic may read.
 -- Assumes nothing.
 use Prim.Native.Nat.{ℕ, ◌≤◌}
 use mathlib.Core.Path.{◌≡◌, sym}
